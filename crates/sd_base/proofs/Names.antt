@@ -1,0 +1,58 @@
+-- Bytes with no refusal are a name, and how they are kept.
+use Rattle.std.proofs.Common.{◌≡◌, ℕ, ◌++◌, List, length, take, drop, replicate, Bool, true, false, Some, None, ◌&&◌, arith, refl, ◌∙◌, length-append}
+use Rattle.std.proofs.Math.Seq.{take-append_seam, drop-append_seam}
+use Rattle.std.proofs.lemmas.Bool.{leb-true, le-leb}
+use Rattle.std.proofs.lemmas.List.{drop-replicate, length-replicate, length-drop}
+use Rattle.std.proofs.lemmas.List.Sums.{AllPass-from_list_all, list_all-from_AllPass}
+use Rattle.std.specs.Prelude.{◌↔◌, not, if◌then◌else◌}
+use Rattle.sd_base.specs.declared.name.BadName.TheVariants.{Length, Letter}
+use Rattle.sd_base.specs.Names.{IsName, bad_name, name_byte}
+use Rattle.sd_base.specs.Padding.{IsPadded}
+
+both_true : (a b : Bool) → (a && b) ≡ true → (a ≡ true) × (b ≡ true)
+both_true true b h = (refl, h)
+both_true false b h = absurd cc
+
+and_both : (a b : Bool) → a ≡ true → b ≡ true → (a && b) ≡ true
+and_both true b _ h = h
+and_both false b h _ = h
+
+-- two tests hold exactly where neither refusal comes
+tests_hold : (fits lettered : Bool) → (if not fits then Some Length else if not lettered then Some Letter else None) ≡ None → (fits ≡ true) × (lettered ≡ true)
+tests_hold true true h = (refl, refl)
+tests_hold true false h = absurd cc
+tests_hold false lettered h = absurd cc
+
+none_refused : (fits lettered : Bool) → fits ≡ true → lettered ≡ true → (if not fits then Some Length else if not lettered then Some Letter else None) ≡ None
+none_refused true true _ _ = refl
+none_refused true false _ h = absurd cc
+none_refused false lettered h _ = absurd cc
+
+-- a name has no refusal, and bytes with no refusal are a name
+pub IsName_is_no_refusal : (bytes : List ℕ) → IsName bytes ↔ (bad_name bytes ≡ None)
+IsName_is_no_refusal bytes = (
+  λ holds. none_refused _ _ (and_both _ _ (le-leb _ _ holds.some) (le-leb _ _ holds.few)) (and_both _ _ holds.first (list_all-from_AllPass name_byte bytes holds.letters)),
+  λ none.
+      let tests = tests_hold _ _ none in
+      let bounds = both_true _ _ tests.0 in
+      let letters = both_true _ _ tests.1 in
+      record {
+        some = leb-true _ _ bounds.0;
+        few = leb-true _ _ bounds.1;
+        first = letters.0;
+        letters = AllPass-from_list_all name_byte bytes letters.1;
+      },
+)
+
+-- bytes with zeros behind them
+pub IsPadded-from_bytes : (bytes front back : List ℕ) → bad_name bytes ≡ None → front ≡ bytes → back ≡ drop (length bytes) (replicate 64 0) → IsPadded (record { padded = front ++ back; len = length bytes })
+IsPadded-from_bytes bytes front back none same rest =
+    let lawful : IsName bytes = (IsName_is_no_refusal bytes).1 none in
+    let front_is : take (length bytes) (front ++ back) ≡ bytes = rw same (take-append_seam bytes back) in
+    let back_is : drop (length bytes) (front ++ back) ≡ back = rw same (drop-append_seam bytes back) in
+    record {
+      lawful = rw front_is lawful;
+      within = lawful.few;
+      whole = rw (same, rest, length-append {A = ℕ} bytes, length-drop {A = ℕ} (length bytes) (replicate 64 0)) (omega (arith, lawful.few, length-replicate {A = ℕ} 64 0));
+      zeros = back_is ∙ rest ∙ drop-replicate (length bytes) 64 0;
+    }

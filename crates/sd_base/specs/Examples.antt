@@ -1,0 +1,204 @@
+-- Worked examples of the definitions, each computed by the checker. What they answer is known apart from them: under
+-- t^63 + 1 a power of t is that of its exponent modulo 63, the fingerprint under the default polynomial was worked out by
+-- long division, and the name of `abc` is an example of FIPS 180-4.
+use Rattle.std.specs.Prelude.{◌≡◌, ℕ, List, [], ◌∷◌, ◌++◌, replicate, take, codes, true, false, Some, None, Ok}
+use Rattle.std.specs.Int.Count.{count_leading_zeros}
+use Rattle.std.specs.Fmt.{digits}
+use Rattle.std.proofs.Common.{refl, lit<, lit≤}
+use Rattle.hex.specs.Hex.{encode_with}
+use Rattle.sha2.specs.Sha256.{sha256, digest_bytes, hash_after, compress, rounds, schedule, first_words}
+use Rattle.sd_base.specs.Parameters.{IsValid}
+use Rattle.sd_base.specs.Polynomial.{remainder, fingerprint}
+use Rattle.sd_base.specs.Cutting.{is_match, count_up, next_cut, cuts_within, cuts_of, chunks_of}
+use Rattle.sd_base.specs.Names.{bad_name}
+use Rattle.sd_base.specs.Packing.{packing}
+use Rattle.sd_base.specs.Words.{default_params, default_plan, bad_word, command_of}
+use Rattle.sd_base.specs.Records.{spelling_of}
+use Rattle.sd_base.specs.Books.{sessions_of, places_in, live_session, recipe_flaw, recipe_damage}
+use Rattle.sd_base.specs.Texts.{plan_text}
+use Rattle.sd_base.specs.OnePass.{one_pass}
+use Rattle.sd_base.specs.declared.raw_params.RawParams.{RawParams}
+use Rattle.sd_base.specs.declared.limits.TheConstants.{DEFAULT_POLYNOMIAL, DEFAULT_BITS, DEFAULT_TARGET, DEFAULT_MIN, DEFAULT_MAX, DEFAULT_WORKERS, DEFAULT_SEGMENT}
+use Rattle.sd_base.specs.declared.name.BadName.TheVariants.{Length, Letter}
+use Rattle.sd_base.specs.declared.params.BadParams.TheVariants.{Bits}
+use Rattle.sd_base.specs.declared.words.BadKind.TheVariants.{Missing, Command as NoCommand, Key as NoKey, Twice, Value}
+use Rattle.sd_base.specs.declared.damage.Damage.TheVariants.{Recipe}
+use Rattle.sd_base.specs.declared.record.NewChunk.{NewChunk}
+use Rattle.sd_base.specs.declared.record.IngestRecord.{IngestRecord}
+use Rattle.sd_base.specs.declared.record.Record.TheVariants.{Ingest, Drop}
+use Rattle.sd_base.specs.declared.words.Quiet.TheVariants.{Plan}
+use Rattle.sd_base.specs.declared.words.Command.TheVariants.{Quiet}
+use Rattle.sd_base.specs.declared.outcome.Outcome.TheVariants.{Done, BadParams}
+
+-- what is used where no parameter is given is valid
+pub IsValid-default_params : IsValid default_params
+IsValid-default_params = record {
+  polynomial = (lit≤ tt, lit< tt, refl);
+  bits = (lit≤ tt, lit≤ tt);
+  target = lit< tt;
+  min = lit≤ tt;
+  max = (lit≤ tt, lit≤ tt);
+}
+
+-- the constants are these defaults
+pub default_plan-of_the_constants : default_plan ≡ Quiet (Plan (record { polynomial = DEFAULT_POLYNOMIAL; bits = DEFAULT_BITS; target = DEFAULT_TARGET; min = DEFAULT_MIN; max = DEFAULT_MAX }) DEFAULT_WORKERS DEFAULT_SEGMENT)
+default_plan-of_the_constants = refl
+
+-- t^63 + 1
+abbrev pub sparse : ℕ
+sparse = 0x8000000000000001
+
+pub fingerprint-of_last_byte_one : fingerprint sparse (replicate 47 0 ++ 1 ∷ []) ≡ 1
+unfolding count_leading_zeros
+fingerprint-of_last_byte_one = refl
+
+pub fingerprint-of_first_byte_one : fingerprint sparse (1 ∷ replicate 47 0) ≡ 2305843009213693952
+unfolding count_leading_zeros
+fingerprint-of_first_byte_one = refl
+
+pub fingerprint-of_all_ones : fingerprint sparse (replicate 48 255) ≡ 63
+unfolding count_leading_zeros
+fingerprint-of_all_ones = refl
+
+pub remainder-of_384_ones : remainder sparse (replicate 384 1) ≡ 63
+unfolding count_leading_zeros
+remainder-of_384_ones = refl
+
+-- the bytes 0 to 47, under the default polynomial
+pub fingerprint-of_counting_bytes : fingerprint default_params.polynomial (count_up 0 48) ≡ 4967560356722810
+unfolding count_leading_zeros
+fingerprint-of_counting_bytes = refl
+
+-- small sizes, so that little input shows a cut
+abbrev pub small_params : ℕ → RawParams
+small_params target = record { polynomial = sparse; bits = 13; target = target; min = 64; max = 256 }
+
+-- every window is a match, so each chunk but the last has the minimum
+pub cuts_of-zeros : cuts_of (small_params 0) (replicate 200 0) ≡ 64 ∷ 128 ∷ 192 ∷ 200 ∷ []
+unfolding count_leading_zeros next_cut cuts_within
+cuts_of-zeros = refl
+
+-- the one candidate is right behind the byte 1, the minimum away from the start
+pub cuts_of-candidate_at_the_minimum : cuts_of (small_params 1) (replicate 63 0 ++ 1 ∷ replicate 63 0) ≡ 64 ∷ 127 ∷ []
+unfolding count_leading_zeros next_cut cuts_within
+cuts_of-candidate_at_the_minimum = refl
+
+-- one byte nearer to the start it is passed over
+pub cuts_of-candidate_below_the_minimum : cuts_of (small_params 1) (replicate 62 0 ++ 1 ∷ replicate 2 0) ≡ 65 ∷ []
+unfolding count_leading_zeros next_cut cuts_within
+cuts_of-candidate_below_the_minimum = refl
+
+-- the byte 4 at the start of a window is t^378, which is 1 as well: the first byte of a window counts
+pub cuts_of-window_of_48_bytes : cuts_of (small_params 1) (replicate 16 0 ++ 4 ∷ replicate 60 0) ≡ 64 ∷ 77 ∷ []
+unfolding count_leading_zeros next_cut cuts_within
+cuts_of-window_of_48_bytes = refl
+
+-- and the byte before it does not
+pub cuts_of-byte_before_the_window : cuts_of (small_params 1) (replicate 15 0 ++ 4 ∷ replicate 49 0) ≡ 65 ∷ []
+unfolding count_leading_zeros next_cut cuts_within
+cuts_of-byte_before_the_window = refl
+
+-- t^13 + 1 and t^12 + 1 as fingerprints: the low 13 bits are compared, and no more
+pub is_match-above_the_low_bits : is_match (small_params 1) (replicate 46 0 ++ 32 ∷ 1 ∷ []) ≡ true
+unfolding count_leading_zeros
+is_match-above_the_low_bits = refl
+
+pub is_match-in_the_low_bits : is_match (small_params 1) (replicate 46 0 ++ 16 ∷ 1 ∷ []) ≡ false
+unfolding count_leading_zeros
+is_match-in_the_low_bits = refl
+
+-- one short chunk: its offset, its length and its name
+pub plan_text-abc : plan_text (chunks_of default_params (codes "abc")) ≡ codes "0 3 ba7816bf8f01cfea414140de5dae2223b00361a396177a9cb410ff61f20015ad" ++ 10 ∷ []
+unfolding count_leading_zeros next_cut cuts_within digits encode_with sha256 digest_bytes hash_after compress rounds schedule first_words
+plan_text-abc = refl
+
+-- the offset of the second chunk is behind the first
+pub plan_text-two_chunks : plan_text (codes "abc" ∷ codes "abc" ∷ []) ≡ codes "0 3 ba7816bf8f01cfea414140de5dae2223b00361a396177a9cb410ff61f20015ad" ++ 10 ∷ codes "3 3 ba7816bf8f01cfea414140de5dae2223b00361a396177a9cb410ff61f20015ad" ++ 10 ∷ []
+unfolding digits encode_with sha256 digest_bytes hash_after compress rounds schedule first_words
+plan_text-two_chunks = refl
+
+-- nothing is printed for an empty input
+pub one_pass-plan_of_nothing : one_pass (codes "plan" ∷ []) [] ≡ record { outcome = Done; text = [] }
+unfolding cuts_within
+one_pass-plan_of_nothing = refl
+
+pub bad_name-of_nothing : bad_name [] ≡ Some Length
+bad_name-of_nothing = refl
+
+pub bad_name-of_65_letters : bad_name (replicate 65 97) ≡ Some Length
+bad_name-of_65_letters = refl
+
+pub bad_name-of_64_letters : bad_name (replicate 64 97) ≡ None
+bad_name-of_64_letters = refl
+
+pub bad_name-of_all_kinds : bad_name (codes "a.b_c-1") ≡ None
+bad_name-of_all_kinds = refl
+
+pub bad_name-of_a_leading_dot : bad_name (codes ".x") ≡ Some Letter
+bad_name-of_a_leading_dot = refl
+
+pub bad_name-of_a_path : bad_name (codes "a/b") ≡ Some Letter
+bad_name-of_a_path = refl
+
+-- the first word that fails is named, with its place
+pub command_of-no_words : command_of [] ≡ bad_word Missing 0
+command_of-no_words = refl
+
+pub command_of-upper_case : command_of (codes "Plan" ∷ []) ≡ bad_word NoCommand 0
+command_of-upper_case = refl
+
+pub command_of-unknown_key : command_of (codes "plan" ∷ codes "speed=3" ∷ []) ≡ bad_word NoKey 1
+command_of-unknown_key = refl
+
+pub command_of-key_twice : command_of (codes "plan" ∷ codes "bits=9" ∷ codes "bits=x" ∷ []) ≡ bad_word Twice 2
+command_of-key_twice = refl
+
+pub command_of-leading_zero : command_of (codes "plan" ∷ codes "bits=09" ∷ []) ≡ bad_word Value 1
+command_of-leading_zero = refl
+
+pub command_of-keys : command_of (codes "plan" ∷ codes "max=256" ∷ codes "polynomial=8000000000000001" ∷ codes "min=64" ∷ codes "target=1" ∷ []) ≡ Ok (Quiet (Plan (small_params 1) 4 65536))
+command_of-keys = refl
+
+-- the refusal names the first number that is out of its range
+pub one_pass-seventeen_bits : one_pass (codes "plan" ∷ codes "max=1" ∷ codes "bits=17" ∷ []) [] ≡ record { outcome = BadParams Bits; text = [] }
+one_pass-seventeen_bits = refl
+
+-- two chunks in one container, behind its header
+pub packing-two_chunks : packing (replicate 64 0 ∷ replicate 8 0 ∷ []) ≡ (codes "SSCP" ++ replicate 76 0) ∷ []
+packing-two_chunks = refl
+
+-- a drop of session 0, but for its digest
+pub spelling_of-drop_0 : take 9 (spelling_of (Drop 0)) ≡ 68 ∷ 0 ∷ 0 ∷ 0 ∷ 4 ∷ 0 ∷ 0 ∷ 0 ∷ 0 ∷ []
+unfolding spelling_of
+spelling_of-drop_0 = refl
+
+-- two chunks of 64 and 8 bytes, and sessions of them
+abbrev two_chunks : List NewChunk
+two_chunks = record { length = 64; name = [] } ∷ record { length = 8; name = [] } ∷ []
+
+abbrev session_of : List NewChunk → ℕ → List ℕ → IngestRecord
+session_of fresh size recipe = record { name = codes "a"; length = size; fresh = fresh; recipe = recipe }
+
+pub recipe_flaw-of_200_zeros : recipe_flaw two_chunks (session_of two_chunks 200 (0 ∷ 0 ∷ 0 ∷ 1 ∷ [])) ≡ None
+recipe_flaw-of_200_zeros = refl
+
+-- an entry that is the number of chunks
+pub recipe_flaw-beyond : recipe_flaw two_chunks (session_of [] 64 (0 ∷ 2 ∷ [])) ≡ Some 1
+recipe_flaw-beyond = refl
+
+-- lengths whose sum is one too few
+pub recipe_flaw-sum : recipe_flaw two_chunks (session_of [] 73 (0 ∷ 1 ∷ [])) ≡ Some 2
+recipe_flaw-sum = refl
+
+-- a chunk of a later session is not there yet
+pub recipe_damage-later_chunk :
+    recipe_damage [] 0 (sessions_of (Ingest (session_of [] 64 (0 ∷ [])) ∷ Ingest (session_of two_chunks 64 (0 ∷ [])) ∷ []))
+    ≡ Some (Recipe 0 0)
+recipe_damage-later_chunk = refl
+
+-- a dropped session is found no more, and its chunks and places stay
+pub live_session-dropped : live_session (sessions_of (Ingest (session_of two_chunks 72 (0 ∷ 1 ∷ [])) ∷ Drop 0 ∷ [])) (codes "a") ≡ None
+live_session-dropped = refl
+
+pub places_in-dropped : places_in (sessions_of (Ingest (session_of two_chunks 72 (0 ∷ 1 ∷ [])) ∷ Drop 0 ∷ [])) ≡ 2
+places_in-dropped = refl

@@ -1,0 +1,17 @@
+pub mod Parameters
+pub mod Params
+pub mod Polynomial
+pub mod Cutting
+pub mod Keys
+pub mod Packing
+pub mod Names
+pub mod Padding
+pub mod Records
+pub mod Books
+pub mod Words
+pub mod Texts
+pub mod OnePass
+pub mod Laws
+pub mod Examples
+pub use Rattle.sha2.specs.Sha256
+pub use Rattle.hex.specs.Hex

@@ -1,0 +1,13 @@
+-- The five numbers that parameters hold.
+use Rattle.sd_base.specs.declared.params.Params.{Params}
+use Rattle.sd_base.specs.declared.raw_params.RawParams.{RawParams}
+
+-- the numbers, as the definitions of cutting take them
+abbrev pub numbers_of : Params → RawParams
+numbers_of params = record {
+  polynomial = params.polynomial;
+  bits = params.bits;
+  target = params.target;
+  min = params.min;
+  max = params.max;
+}

@@ -1,0 +1,67 @@
+-- The words of the command line, as lists of bytes, and the command that they name. Defined by this project.
+use Rattle.std.specs.Prelude.{ℕ, ◌-◌, ◌^◌, List, [], ◌∷◌, codes, Option, Some, None, Result, Ok, Err, if◌then◌else◌}
+use Rattle.std.specs.Str.{bytes_eq}
+use Rattle.sd_base.specs.Keys.{Key, decimal_key, first_bad_word, setting}
+use Rattle.sd_base.specs.declared.raw_params.RawParams.{RawParams}
+use Rattle.sd_base.specs.declared.words.BadKind.{BadKind}
+use Rattle.sd_base.specs.declared.words.BadKind.TheVariants.{Missing, Command as NoCommand}
+use Rattle.sd_base.specs.declared.words.BadWords.{BadWords}
+use Rattle.sd_base.specs.declared.words.Quiet.TheVariants.{Plan}
+use Rattle.sd_base.specs.declared.words.Command.{Command}
+use Rattle.sd_base.specs.declared.words.Command.TheVariants.{Quiet}
+
+-- the parameters of cutting where none are given: the number of bits, the minimum and the maximum are those of LBFS (SOSP
+-- 2001, section 3.1), the polynomial and the target are this project's own
+abbrev pub default_params : RawParams
+default_params = record { polynomial = 0x3DA3358B4DC173; bits = 13; target = 120; min = 2048; max = 65536 }
+
+-- `plan` with what is used where no key is given
+abbrev pub default_plan : Command
+default_plan = Quiet (Plan default_params 4 65536)
+
+-- the keys that set parameters. The polynomial is given in hexadecimal digits of either case.
+abbrev pub polynomial_key : Key
+polynomial_key = record { name = codes "polynomial"; base = 16; most_digits = 16; least = 0; greatest = 2 ^ 64 - 1 }
+
+abbrev pub bits_key : Key
+bits_key = decimal_key (codes "bits") 0 (2 ^ 32 - 1)
+
+abbrev pub target_key : Key
+target_key = decimal_key (codes "target") 0 (2 ^ 32 - 1)
+
+abbrev pub min_key : Key
+min_key = decimal_key (codes "min") 0 (2 ^ 32 - 1)
+
+abbrev pub max_key : Key
+max_key = decimal_key (codes "max") 0 (2 ^ 32 - 1)
+
+abbrev pub params_keys : List Key
+params_keys = polynomial_key ∷ bits_key ∷ target_key ∷ min_key ∷ max_key ∷ []
+
+-- the parameters that words set
+abbrev pub params_of : List (List ℕ) → RawParams
+params_of words = record {
+  polynomial = setting words polynomial_key default_params.polynomial;
+  bits = setting words bits_key default_params.bits;
+  target = setting words target_key default_params.target;
+  min = setting words min_key default_params.min;
+  max = setting words max_key default_params.max;
+}
+
+-- the refusal of the word at a place
+abbrev pub bad_word : BadKind → ℕ → Result Command BadWords
+bad_word kind place = Err (record { kind = kind; place = place })
+
+-- a command, unless one of its words is bad
+abbrev pub unless_bad : Option BadWords → Command → Result Command BadWords
+unless_bad None command = Ok command
+unless_bad (Some bad) command = Err bad
+
+-- the words behind `plan`
+abbrev pub plan_of : List (List ℕ) → Result Command BadWords
+plan_of words = unless_bad (first_bad_word params_keys [] 1 words) (Quiet (Plan (params_of words) 4 65536))
+
+-- the command that the words name, or the first word that fails
+abbrev pub command_of : List (List ℕ) → Result Command BadWords
+command_of [] = bad_word Missing 0
+command_of (word ∷ words) = if bytes_eq word (codes "plan") then plan_of words else bad_word NoCommand 0

@@ -1,0 +1,150 @@
+//! The name of a session.
+ghost use Rattle.std.specs.Prelude.{◌≡◌, IfOk};
+ghost use Rattle.std.proofs.Common.{rules};
+ghost use Rattle.std.specs.List.{list_all};
+ghost use Rattle.std.specs.Result.{result_err};
+ghost use Rattle.std.specs.Str.{bytes_eq};
+ghost use Rattle.sd_base.specs.Names.{IsName, bad_name, name_byte};
+
+use crate::limits::MAX_NAME;
+use std::marker::Model;
+
+/// Why bytes are no name of a session. They are tried in this order. Defined by this project.
+#[derive(Clone, Copy, Debug, PartialEq, Eq)]
+pub enum BadName {
+    /// There is no byte, or there are more than 64.
+    Length,
+    /// A byte is none of the ASCII letters, the digits, `.`, `_` and `-`, or the first is neither a letter nor a digit.
+    Letter,
+}
+
+/// The name of a session: contracts see its bytes. It takes no memory. Defined by this project.
+#[derive(Clone, Copy, Debug)]
+pub struct Name {
+    // The bytes of the name, and zeros behind them.
+    padded: [u8; MAX_NAME],
+    len: usize,
+}
+
+impl Model for Name {
+    ghost use Rattle.std.specs.Prelude.{ℕ, List};
+
+    ghost Value = { List ℕ };
+
+    ghost use Rattle.sd_base.specs.Padding.{IsPadded, bytes_in, padded_of, padded_of-bytes_in};
+
+    ghost view = { bytes_in };
+
+    ghost invariant = { IsPadded };
+
+    ghost inverse = { padded_of };
+
+    ghost inverse_ok = { padded_of-bytes_in };
+}
+
+impl PartialEq for Name {
+    ghost eq = { bytes_eq };
+
+    ghost laws = { Prim.search rules };
+
+    fn eq(&self, other: &Name) -> bool {
+        self.as_bytes() == other.as_bytes()
+    }
+}
+
+impl Eq for Name {
+    ghost laws = { Prim.search rules };
+}
+
+impl Name {
+    /// The name of these bytes. A refusal comes exactly where they are no name of a session, and says what is wrong.
+    pub fn read(bytes: &[u8]) -> Result<Name, BadName>
+        ensures refused { result_err result ≡ bad_name bytes.now }
+        ensures made { IfOk result (λ name. name ≡ bytes.now) }
+    {
+        match flaw_of(bytes) {
+            Some(bad) => Err(bad),
+            None => Ok(padded(bytes)),
+        }
+    }
+
+    /// The bytes of the name.
+    pub fn as_bytes(&self) -> &[u8]
+        ensures bytes { result.now ≡ self.now }
+        ensures lawful { IsName result.now }
+    {
+        &self.padded[..self.len]
+    }
+}
+
+// What is wrong with bytes that are no name.
+fn flaw_of(bytes: &[u8]) -> Option<BadName>
+    ensures { result ≡ bad_name bytes.now }
+{
+    if bytes.is_empty() || bytes.len() > MAX_NAME {
+        return Some(BadName::Length);
+    }
+    if bytes[0].is_ascii_alphanumeric() && all_may_stand(bytes) {
+        None
+    } else {
+        Some(BadName::Letter)
+    }
+}
+
+// Whether each byte may stand in a name.
+fn all_may_stand(bytes: &[u8]) -> bool
+    ensures { result ≡ list_all name_byte bytes.now }
+{
+    bytes.iter().all(|byte| {
+        byte.is_ascii_alphanumeric() || *byte == b'.' || *byte == b'_' || *byte == b'-'
+    })
+}
+
+// The name of bytes that are one.
+fn padded(bytes: &[u8]) -> Name
+    requires { bad_name bytes.now ≡ None }
+    ensures { result ≡ bytes.now }
+{
+    let len = bytes.len();
+    let mut padded = [0; MAX_NAME];
+    padded[..len].copy_from_slice(bytes);
+    Name { padded, len }
+}
+
+#[cfg(test)]
+mod tests {
+    use super::BadName::{Length, Letter};
+    use super::*;
+
+    #[test]
+    fn names_and_what_is_no_name(rt: HostRuntime) {
+        let longest = [b'a'; 65];
+        let cases: [(&[u8], Option<BadName>); 16] = [
+            (b"", Some(Length)),
+            (b"a", None),
+            (b"9", None),
+            (b"Z", None),
+            (b"a.b_c-1", None),
+            (b"a..", None),
+            (b".x", Some(Letter)),
+            (b"-x", Some(Letter)),
+            (b"_x", Some(Letter)),
+            (b"a/b", Some(Letter)),
+            (b"a b", Some(Letter)),
+            (b"a\0", Some(Letter)),
+            (b"a\xe9", Some(Letter)),
+            (b"/", Some(Letter)),
+            (&longest[..64], None),
+            (&longest, Some(Length)),
+        ];
+        for (bytes, want) in cases {
+            match Name::read(bytes) {
+                Ok(name) => {
+                    assert!(rt; want.is_none());
+                    assert!(rt; name.as_bytes() == bytes);
+                }
+                Err(bad) => assert_eq!(rt; Some(bad), want),
+            }
+        }
+    }
+}

@@ -1,0 +1,126 @@
+ghost use Rattle.std.specs.Prelude.{◌≡◌, ◌^◌, ◌%◌, ◌<◌, ◌≤◌, ℕ, IfOk, Option};
+ghost use Rattle.std.specs.Result.{result_err};
+ghost use Rattle.sd_base.specs.Parameters.{IsPolynomial, bad_parameter};
+ghost use Rattle.sd_base.specs.declared.raw_params.RawParams.{RawParams};
+
+use crate::limits::{LARGEST_MAX, MOST_BITS, SMALLEST_MIN, SMALLEST_POLYNOMIAL};
+
+/// Which number is the first that is out of its range. They are tried in this order. Defined by this project.
+#[derive(Clone, Copy, Debug, PartialEq, Eq)]
+pub enum BadParams {
+    /// The polynomial: its highest set bit is below 16, or its lowest bit is 0.
+    Polynomial,
+    /// `bits` is 0, or above 16.
+    Bits,
+    /// `target` is not below 2 to the power `bits`.
+    Target,
+    /// `min` is below 48.
+    Min,
+    /// `max` is below `min`, or above 1,048,576.
+    Max,
+}
+
+/// The numbers that steer cutting, each in its range. Defined by this project, after LBFS (SOSP 2001, section 3.1).
+#[derive(Clone, Copy, Debug, PartialEq, Eq)]
+pub struct Params {
+    /// The polynomial over the two-element field, one bit a coefficient: of degree 16 to 63, with the constant term 1.
+    /// It may be irreducible or not.
+    pub polynomial: u64,
+    /// The number of low bits of a fingerprint that are compared, from 1 to 16.
+    pub bits: u32,
+    /// The value of these bits at a candidate, below 2 to the power `bits`.
+    pub target: u32,
+    /// Bytes of the shortest chunk, at least 48; the last chunk of an input may be shorter.
+    pub min: u32,
+    /// Bytes of the longest chunk, from `min` to 1,048,576.
+    pub max: u32,
+    pub ghost valid_polynomial: { IsPolynomial polynomial },
+    pub ghost some_bits: { 1 ≤ bits },
+    pub ghost few_bits: { bits ≤ 16 },
+    pub ghost target_fits: { target < 2 ^ bits },
+    pub ghost min_holds_a_window: { 48 ≤ min },
+    pub ghost ordered: { min ≤ max },
+    pub ghost max_in_range: { max ≤ 1048576 },
+}
+
+impl Params {
+    ghost use Rattle.sd_base.specs.Params.{numbers_of};
+
+    /// The parameters of these numbers. A refusal names the first number that is out of its range, and comes exactly
+    /// where one is.
+    pub fn new(
+        polynomial: u64,
+        bits: u32,
+        target: u32,
+        min: u32,
+        max: u32,
+    ) -> Result<Params, BadParams>
+        ensures refused { let numbers : RawParams =
+            record { polynomial = polynomial; bits = bits; target = target; min = min; max = max }
+            in result_err result ≡ bad_parameter numbers }
+        ensures made { let numbers : RawParams =
+            record { polynomial = polynomial; bits = bits; target = target; min = min; max = max }
+            in IfOk result (λ params. numbers_of params ≡ numbers) }
+    {
+        if polynomial < SMALLEST_POLYNOMIAL || polynomial % 2 == 0 {
+            return Err(BadParams::Polynomial);
+        }
+        if bits == 0 || bits > MOST_BITS {
+            return Err(BadParams::Bits);
+        }
+        if target >= 1 << bits {
+            return Err(BadParams::Target);
+        }
+        if min < SMALLEST_MIN {
+            return Err(BadParams::Min);
+        }
+        if max < min || max > LARGEST_MAX {
+            return Err(BadParams::Max);
+        }
+        Ok(Params {
+            polynomial,
+            bits,
+            target,
+            min,
+            max,
+        })
+    }
+}
+
+#[cfg(test)]
+mod tests {
+    use super::BadParams::{Bits, Max, Min, Polynomial, Target};
+    use super::*;
+    use crate::limits::DEFAULT_POLYNOMIAL;
+
+    #[test]
+    fn first_number_out_of_its_range(rt: HostRuntime) {
+        let p = DEFAULT_POLYNOMIAL;
+        let cases: [(u64, u32, u32, u32, u32, Option<BadParams>); 20] = [
+            (p, 13, 120, 2048, 65_536, None),
+            (0xFFFF, 13, 120, 2048, 65_536, Some(Polynomial)),
+            (1 << 16, 13, 120, 2048, 65_536, Some(Polynomial)),
+            (1 << 16 | 1, 13, 120, 2048, 65_536, None),
+            (1 << 63, 13, 120, 2048, 65_536, Some(Polynomial)),
+            (1 << 63 | 1, 13, 120, 2048, 65_536, None),
+            (p, 0, 0, 2048, 65_536, Some(Bits)),
+            (p, 1, 1, 2048, 65_536, None),
+            (p, 16, 65_535, 2048, 65_536, None),
+            (p, 16, 65_536, 2048, 65_536, Some(Target)),
+            (p, 17, 0, 2048, 65_536, Some(Bits)),
+            (p, 13, 120, 47, 65_536, Some(Min)),
+            (p, 13, 120, 48, 48, None),
+            (p, 13, 120, 49, 48, Some(Max)),
+            (p, 13, 120, 2048, 1_048_576, None),
+            (p, 13, 120, 2048, 1_048_577, Some(Max)),
+            (0, 0, 1, 47, 46, Some(Polynomial)),
+            (p, 0, 1, 47, 46, Some(Bits)),
+            (p, 1, 2, 47, 46, Some(Target)),
+            (p, 1, 1, 47, 46, Some(Min)),
+        ];
+        for (polynomial, bits, target, min, max, want) in cases {
+            let found = Params::new(polynomial, bits, target, min, max).err();
+            assert_eq!(rt; found, want, "at {polynomial} {bits} {target} {min} {max}");
+        }
+    }
+}
