@@ -1,0 +1,14 @@
+use Rattle.std.proofs.Common.{◌-◌, ◌≤◌, take, vec_len}
+use Rattle.edge_traits.specs.Source.{Takes}
+use Rattle.edge_traits.proofs.reading.read_all.Given as goal
+
+abbrev pub invariant-loop-taken : goal.invariant-loop-taken
+invariant-loop-taken g l = record {
+  within : l.taken ≤ vec_len l.buffer;
+  bounded : vec_len l.buffer ≤ l.most;
+  taken : Takes (g.R.Source.left l.initial.source) (g.R.Source.left l.source) (take l.taken l.buffer.items);
+  never_falls : g.R.Source.faults l.initial.source ≤ g.R.Source.faults l.source;
+}
+
+abbrev pub decreases-loop-taken : goal.decreases-loop-taken
+decreases-loop-taken g l = l.most - l.taken

@@ -1,0 +1,13 @@
+pub mod Faults
+pub mod Source
+pub mod Sink
+pub mod Shelf
+pub mod MemSource
+pub mod MemSink
+pub mod NoShelf
+pub mod Entries
+pub mod ShelfPlan
+pub mod MemShelf
+pub mod Reads
+pub mod ReadAll
+pub mod Std

@@ -1,0 +1,47 @@
+-- What a shelf in memory stands for. Defined by this project.
+use Rattle.std.specs.Prelude.{◌≡◌, ℕ, List, Bool, Option, Result, IsErrOf, OnOk, IsSome, IsNone}
+use Rattle.edge_traits.specs.declared.fault.EdgeFault.{EdgeFault}
+use Rattle.edge_traits.specs.declared.fault.EdgeFault.TheVariants.{Failed}
+use Rattle.edge_traits.specs.declared.mem_shelf.MemShelf.{MemShelf}
+use Rattle.edge_traits.specs.declared.shelf.File.{File}
+use Rattle.edge_traits.specs.declared.shelf_plan.ShelfFail.{ShelfFail}
+use Rattle.edge_traits.specs.Entries.{bytes_in, loose_in}
+use Rattle.edge_traits.specs.Faults.{counted_once_more, CountsFailed}
+use Rattle.edge_traits.specs.ShelfPlan.{fail_at}
+
+-- the bytes of each file; one that is not there counts as empty
+abbrev pub files_of_shelf : MemShelf → File → List ℕ
+files_of_shelf shelf = bytes_in shelf.entries.items
+
+-- the files that were appended to or cut since their last flush, or since they were put
+abbrev pub loose_of_shelf : MemShelf → File → Bool
+loose_of_shelf shelf = loose_in shelf.entries.items
+
+-- the calls that fail
+abbrev pub failing_calls : MemShelf → List ShelfFail
+failing_calls shelf = shelf.plan.failing.items
+
+-- how many calls there have been, or the last number of 64 bits
+abbrev pub shelf_calls : MemShelf → ℕ
+shelf_calls shelf = shelf.plan.calls
+
+-- how many of them have failed
+abbrev pub shelf_faults : MemShelf → ℕ
+shelf_faults shelf = shelf.plan.faults
+
+-- what the next call keeps, where it is to fail
+abbrev pub kept_next : MemShelf → Option ℕ
+kept_next shelf = fail_at (failing_calls shelf) (shelf_calls shelf)
+
+-- The call has its number, and it failed only where it was to fail; where it was to fail it was refused.
+pub record IsCounted {T : Type 0} (result : Result T EdgeFault) (before after : MemShelf) : Type 0 where
+  pub fails : IsErrOf result Failed → IsSome (kept_next before)
+  pub ok : OnOk result (IsNone (kept_next before))
+  pub faults : CountsFailed result (shelf_faults before) (shelf_faults after)
+  pub calls : shelf_calls after ≡ counted_once_more (shelf_calls before)
+  pub failing : failing_calls after ≡ failing_calls before
+
+-- no file has changed
+pub record IsUntouched (before after : MemShelf) : Type 0 where
+  pub files : (f : File) → files_of_shelf after f ≡ files_of_shelf before f
+  pub loose : (f : File) → loose_of_shelf after f ≡ loose_of_shelf before f

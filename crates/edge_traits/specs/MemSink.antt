@@ -1,0 +1,19 @@
+-- What a sink in memory stands for. Defined by this project.
+use Rattle.std.specs.Prelude.{ℕ, List}
+use Rattle.edge_traits.specs.declared.mem_sink.MemSink.{MemSink}
+
+-- the bytes that were written
+abbrev pub written_of : MemSink → List ℕ
+written_of sink = sink.bytes.items
+
+-- the numbers of the writes that fail
+abbrev pub failing_writes : MemSink → List ℕ
+failing_writes sink = sink.plan.failing.items
+
+-- how many writes there have been, or the last number of 64 bits
+abbrev pub write_calls : MemSink → ℕ
+write_calls sink = sink.plan.calls
+
+-- how many of them have failed
+abbrev pub write_faults : MemSink → ℕ
+write_faults sink = sink.plan.faults

@@ -1,0 +1,23 @@
+-- What a source in memory stands for. Defined by this project.
+use Rattle.std.specs.Prelude.{ℕ, List, drop}
+use Rattle.edge_traits.specs.declared.mem_source.MemSource.{MemSource}
+
+-- the bytes still to come
+abbrev pub left_of : MemSource → List ℕ
+left_of source = drop source.at source.bytes.items
+
+-- the sizes of the reads to come
+abbrev pub sizes_of : MemSource → List ℕ
+sizes_of source = drop source.read_count source.sizes.items
+
+-- the numbers of the reads that fail
+abbrev pub failing_reads : MemSource → List ℕ
+failing_reads source = source.plan.failing.items
+
+-- how many reads there have been, or the last number of 64 bits
+abbrev pub read_calls : MemSource → ℕ
+read_calls source = source.plan.calls
+
+-- how many of them have failed
+abbrev pub read_faults : MemSource → ℕ
+read_faults source = source.plan.faults

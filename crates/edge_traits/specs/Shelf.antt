@@ -1,0 +1,53 @@
+-- What the calls of a shelf do to its files. Defined by this project.
+use Rattle.std.specs.Prelude.{◌≡◌, ◌≢◌, ◌⊎◌, ℕ, ◌≤◌, List, ◌++◌, length, take, drop, Bool, true, false, Option, option_map, IfSome}
+use Rattle.edge_traits.specs.declared.shelf.File.{File}
+
+-- the bytes of one file, where they are told
+abbrev pub content : Option (File → List ℕ) → File → Option (List ℕ)
+content files file = option_map (λ bytes_of. bytes_of file) files
+
+-- no file has changed
+abbrev pub SameFiles : Option (File → List ℕ) → Option (File → List ℕ) → Type 0
+SameFiles before after = (f : File) → content after f ≡ content before f
+
+-- no file but this one has changed
+abbrev pub ChangesOnly : File → Option (File → List ℕ) → Option (File → List ℕ) → Type 0
+ChangesOnly file before after = (f : File) → f ≢ file → content after f ≡ content before f
+
+-- the file has its old bytes and then these
+abbrev pub Appended : File → List ℕ → Option (File → List ℕ) → Option (File → List ℕ) → Type 0
+Appended file bytes before after = content after file ≡ option_map (λ had. had ++ bytes) (content before file)
+
+-- the file has its old bytes and then the first k of these, for some k
+abbrev pub AppendedPrefix : File → List ℕ → Option (File → List ℕ) → Option (File → List ℕ) → Type 0
+AppendedPrefix file piece before after = (k : ℕ) × (k ≤ length piece) × Appended file (take k piece) before after
+
+-- the file has the first bytes that it had, up to this length
+abbrev pub CutTo : File → ℕ → Option (File → List ℕ) → Option (File → List ℕ) → Type 0
+CutTo file size before after = content after file ≡ option_map (λ had. take size had) (content before file)
+
+-- the file is cut, or it is as it was
+abbrev pub CutOrSame : File → ℕ → Option (File → List ℕ) → Option (File → List ℕ) → Type 0
+CutOrSame file size before after = CutTo file size before after ⊎ (content after file ≡ content before file)
+
+-- where the bytes are told, this is their number
+abbrev pub HasLength : Option (List ℕ) → ℕ → Type 0
+HasLength told n = IfSome told (λ bytes. n ≡ length bytes)
+
+-- where the bytes are told, these are as many of those from `at` on as there are and as fit
+abbrev pub IsReadAt : Option (List ℕ) → ℕ → ℕ → List ℕ → Type 0
+IsReadAt told at room given = IfSome told (λ bytes. given ≡ take room (drop at bytes))
+
+-- the same files are loose as before
+abbrev pub SameLoose : (File → Bool) → (File → Bool) → Type 0
+SameLoose before after = (f : File) → after f ≡ before f
+
+-- an append or a cut may put its own file among the loose ones, and changes nothing else of them
+pub record MayLoosen (file : File) (before after : File → Bool) : Type 0 where
+  pub own : before file ≡ true → after file ≡ true
+  pub others : (f : File) → f ≢ file → after f ≡ before f
+
+-- a flush takes its own file out of the loose ones, and changes nothing else of them
+pub record Flushed (file : File) (before after : File → Bool) : Type 0 where
+  pub own : after file ≡ false
+  pub others : (f : File) → f ≢ file → after f ≡ before f

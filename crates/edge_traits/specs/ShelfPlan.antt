@@ -1,0 +1,8 @@
+-- The calls of a shelf in memory that fail. Defined by this project.
+use Rattle.std.specs.Prelude.{ℕ, List, [], ◌∷◌, Option, Some, None, nat_eq, if◌then◌else◌}
+use Rattle.edge_traits.specs.declared.shelf_plan.ShelfFail.{ShelfFail}
+
+-- what the call of this number keeps, where it is to fail: the first entry of the number decides
+abbrev pub fail_at : List ShelfFail → ℕ → Option ℕ
+fail_at [] number = None
+fail_at (fail ∷ failing) number = if nat_eq fail.call number then Some fail.kept else fail_at failing number

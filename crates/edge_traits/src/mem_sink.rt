@@ -1,0 +1,64 @@
+//! A sink that keeps its bytes in a vector, and fails where it is told to.
+ghost use Rattle.std.specs.Prelude.{◌≡◌, ◌↔◌, ◌+◌, ◌++◌, [], Contains, Some, length, IfOk, IsErrOf, is_ok, if◌then◌else◌};
+ghost use Rattle.edge_traits.specs.Faults.{counted_once_more, CountsFailed};
+
+use crate::plan::FaultPlan;
+use crate::{EdgeFault, Sink};
+use std::alloc::Global;
+
+/// A sink in memory. It tells its bytes. Defined by this project.
+#[derive(Drop)]
+pub struct MemSink {
+    bytes: Vec<u8>,
+    plan: FaultPlan,
+}
+
+impl MemSink {
+    ghost use Rattle.edge_traits.specs.MemSink.{written_of, failing_writes, write_calls, write_faults};
+
+    /// A sink with nothing written to it. The write calls whose numbers, counted from 0, stand in `failing` answer
+    /// `Failed`. Each other one takes its piece whole, or answers `OutOfMemory`.
+    pub fn new(alloc: Global, failing: Vec<u32>) -> Self
+        ensures written { written_of result ≡ [] }
+        ensures failing { failing_writes result ≡ failing.items }
+        ensures calls { write_calls result ≡ 0 }
+        ensures faults { write_faults result ≡ 0 }
+    {
+        MemSink {
+            bytes: Vec::new(alloc),
+            plan: FaultPlan::new(failing),
+        }
+    }
+
+    /// The bytes that were written.
+    pub fn written(&self) -> &[u8]
+        ensures { result.now ≡ written_of self.now }
+    {
+        &self.bytes
+    }
+}
+
+impl Sink for MemSink {
+    ghost use Rattle.edge_traits.specs.MemSink.{written_of, failing_writes, write_calls, write_faults};
+
+    ghost written = { λ sink. Some (written_of sink) };
+
+    ghost faults = { write_faults };
+
+    fn write(&mut self, bytes: &[u8]) -> Result<usize, EdgeFault>
+        ensures whole { IfOk result (λ k. k ≡ length bytes.now) }
+        ensures written { written_of self.new ≡ (if is_ok result then written_of self.old ++ bytes.now else written_of self.old) }
+
+        // Exactly the planned calls fail.
+        ensures fails { IsErrOf result EdgeFault.Failed ↔ Contains (failing_writes self.old) (write_calls self.old) }
+        ensures faults { CountsFailed result (write_faults self.old) (write_faults self.new) }
+        ensures calls { write_calls self.new ≡ counted_once_more (write_calls self.old) }
+        ensures failing { failing_writes self.new ≡ failing_writes self.old }
+    {
+        if self.plan.next_fails() {
+            return Err(EdgeFault::Failed);
+        }
+        self.bytes.extend_from_slice(bytes)?;
+        Ok(bytes.len())
+    }
+}

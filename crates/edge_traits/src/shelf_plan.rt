@@ -1,0 +1,93 @@
+//! Which calls of a shelf in memory fail, and what they leave.
+ghost use Rattle.std.specs.Prelude.{◌≡◌, ◌≤◌, ◌<◌, ◌^◌, ◌+◌, OnOk, OnErr, IsSome, IsNone, IsOk, IsErr, IsErrOf, ◌↔◌};
+ghost use Rattle.edge_traits.specs.Faults.{counted_once_more, CountsFailed};
+ghost use Rattle.edge_traits.specs.ShelfPlan.{fail_at};
+
+use crate::EdgeFault;
+use sd_base::OutOfMemory;
+
+/// A call of a `MemShelf` that fails: its number, counted from 0, and what it leaves. An append keeps so many bytes of the
+/// piece, or all of them where there are fewer; a cut is done where `kept` isn't 0. Defined by this project.
+#[derive(Clone, Copy, Debug, PartialEq, Eq)]
+pub struct ShelfFail {
+    pub call: u32,
+    pub kept: u32,
+}
+
+/// The calls of a shelf in memory, numbered from 0, and those among them that fail. Calls whose numbers pass `u32` never
+/// fail, so the count of faults stays far below the last number of 64 bits.
+#[derive(Drop)]
+pub(crate) struct ShelfPlan {
+    failing: Vec<ShelfFail>,
+    calls: u64,
+    faults: u64,
+    ghost among_calls: { faults ≤ calls },
+    ghost few: { faults ≤ 2 ^ 32 },
+}
+
+impl ShelfPlan {
+    /// No call has been made.
+    pub(crate) fn new(failing: Vec<ShelfFail>) -> Self
+        ensures failing { result.failing.items ≡ failing.items }
+        ensures calls { result.calls ≡ 0 }
+        ensures faults { result.faults ≡ 0 }
+    {
+        ShelfPlan {
+            failing,
+            calls: 0,
+            faults: 0,
+        }
+    }
+
+    /// What the call that is made now keeps, where it is to fail.
+    pub(crate) fn kept(&self) -> Option<u32>
+        ensures kept { result ≡ fail_at self.now.failing.items self.now.calls }
+        ensures small { IsSome result → self.now.calls < 2 ^ 32 }
+    {
+        for fail in &self.failing {
+            if u64::from(fail.call) == self.calls {
+                return Some(fail.kept);
+            }
+        }
+        None
+    }
+
+    /// Counts a call that takes no memory, and gives its answer.
+    pub(crate) fn next(&mut self) -> Result<(), EdgeFault>
+        ensures fails { IsErr result ↔ IsSome (fail_at self.old.failing.items self.old.calls) }
+        ensures ok { OnOk result (IsNone (fail_at self.old.failing.items self.old.calls)) }
+        ensures only_fails { OnErr result (IsErrOf result EdgeFault.Failed) }
+        ensures faults { CountsFailed result self.old.faults self.new.faults }
+        ensures calls { self.new.calls ≡ counted_once_more self.old.calls }
+        ensures failing { self.new.failing.items ≡ self.old.failing.items }
+    {
+        let kept = self.kept();
+        self.answer(kept, Ok(()))
+    }
+
+    /// Counts the call, and gives its answer: want of memory, or the failure that was planned.
+    pub(crate) fn answer(
+        &mut self,
+        kept: Option<u32>,
+        done: Result<(), OutOfMemory>,
+    ) -> Result<(), EdgeFault>
+        requires { IsSome kept → self.old.calls < 2 ^ 32 }
+
+        ensures out_of_memory { OnErr done (result ≡ Err EdgeFault.OutOfMemory) }
+        ensures failed { OnOk done (IsSome kept → result ≡ Err EdgeFault.Failed) }
+        ensures ok { OnOk done (IsNone kept → IsOk result) }
+        ensures planned { OnOk result (IsNone kept) }
+        ensures fails { IsErrOf result EdgeFault.Failed → IsSome kept }
+        ensures faults { CountsFailed result self.old.faults self.new.faults }
+        ensures calls { self.new.calls ≡ counted_once_more self.old.calls }
+        ensures failing { self.new.failing.items ≡ self.old.failing.items }
+    {
+        self.calls = self.calls.saturating_add(1);
+        done?;
+        if kept.is_some() {
+            self.faults += 1;
+            return Err(EdgeFault::Failed);
+        }
+        Ok(())
+    }
+}

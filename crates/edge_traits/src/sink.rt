@@ -1,0 +1,26 @@
+//! Where bytes go to.
+ghost use Rattle.std.specs.Prelude.{◌≡◌, ◌≤◌, ◌<◌, ℕ, List, Option, length, take, IfOk, OnErr, IsErrOf};
+ghost use Rattle.edge_traits.specs.Faults.{Rose};
+ghost use Rattle.edge_traits.specs.Sink.{Appends};
+
+use crate::EdgeFault;
+
+/// A stream of bytes that is written once, at its end. Defined by this project.
+pub trait Sink: Send {
+    /// The bytes that were written, where the sink tells them.
+    ghost written: { Self → Option (List ℕ) };
+
+    /// How often the sink has failed. The count never falls.
+    ghost faults: { Self → ℕ };
+
+    /// Takes some bytes from the front of the piece and answers how many: at least one of a piece that is not empty.
+    /// `Failed` comes only where the device failed; a refused call has written nothing.
+    fn write(&mut self, bytes: &[u8]) -> Result<usize, EdgeFault>
+        ensures bound { IfOk result (λ k. k ≤ length bytes.now) }
+        ensures progress { IfOk result (λ k. 0 < length bytes.now → 1 ≤ k) }
+        ensures appended { IfOk result (λ k. Appends (written self.old) (written self.new) (take k bytes.now)) }
+
+        ensures failed { IsErrOf result EdgeFault.Failed → Rose (faults self.old) (faults self.new) }
+        ensures never_falls { faults self.old ≤ faults self.new }
+        ensures unchanged { OnErr result (written self.new ≡ written self.old) };
+}

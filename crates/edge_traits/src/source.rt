@@ -1,0 +1,26 @@
+//! Where bytes come from.
+ghost use Rattle.std.specs.Prelude.{◌≡◌, ◌≤◌, ◌<◌, ℕ, List, Option, length, take, IfOk, OnErr, IsErrOf};
+ghost use Rattle.edge_traits.specs.Faults.{Rose};
+ghost use Rattle.edge_traits.specs.Source.{Takes, IsAtEnd};
+
+use crate::EdgeFault;
+
+/// A stream of bytes that is read once, from its front. Defined by this project.
+pub trait Source: Send {
+    /// The bytes still to come, where the source tells them.
+    ghost left: { Self → Option (List ℕ) };
+
+    /// How often the source has failed. The count never falls.
+    ghost faults: { Self → ℕ };
+
+    /// Puts the next bytes into the front of `into` and answers how many. 0 for an `into` that is not empty means that
+    /// nothing is left. `Failed` comes only where the device failed; any refusal leaves what is still to come.
+    fn read(&mut self, into: &mut [u8]) -> Result<usize, EdgeFault>
+        ensures bound { IfOk result (λ k. k ≤ length into.new) }
+        ensures given { IfOk result (λ k. Takes (left self.old) (left self.new) (take k into.new)) }
+        ensures end { result ≡ Ok 0 → 0 < length into.new → IsAtEnd (left self.old) }
+
+        ensures failed { IsErrOf result EdgeFault.Failed → Rose (faults self.old) (faults self.new) }
+        ensures never_falls { faults self.old ≤ faults self.new }
+        ensures unchanged { OnErr result (left self.new ≡ left self.old) };
+}
