@@ -1,0 +1,93 @@
+ghost use Rattle.std.specs.Prelude.{◌≡◌, ℕ, ◌<◌, ◌≤◌, ◌↔◌, true, false, length, replicate, slice_set, IfOk, IfSome, IfNone, IsNone};
+ghost use Rattle.std.specs.Int.{bit_at};
+ghost use Rattle.candidate_map.specs.Positions.{has, IsFirstFrom, NoneFrom};
+ghost use Rattle.candidate_map.specs.Words.{positions_of, HoldsBits, IsLowestFrom};
+
+use sd_base::OutOfMemory;
+use std::alloc::Global;
+use std::marker::Model;
+
+/// The bits of a word of a map.
+const WORD_BITS: u32 = 64;
+
+/// A set of positions below a number of bits that is fixed when the map is made: the bit map between the two stages of
+/// SS-CDC (SYSTOR 2019). A clause sees it as a list with one boolean a position. It is kept in words of 64 bits.
+#[derive(Debug, Drop)]
+pub struct PlainMap {
+    words: Vec<u64>,
+    bits: u32,
+}
+
+impl Model for PlainMap {
+    ghost use Rattle.std.specs.Prelude.{Bool, List};
+    ghost use Rattle.candidate_map.specs.Words.{positions_of, HoldsBits};
+
+    ghost Value = { List Bool };
+
+    ghost view = { λ map. positions_of map.words.items map.bits };
+
+    ghost invariant = { λ map. HoldsBits map.words.items map.bits };
+}
+
+impl PlainMap {
+    /// The empty set of positions below `bits`.
+    pub fn new(alloc: Global, bits: u32) -> Result<PlainMap, OutOfMemory>
+        ensures empty { IfOk result (λ map. map ≡ replicate bits false) }
+    {
+        let words = Vec::from_elem(alloc, 0, bits.div_ceil(WORD_BITS) as usize)?;
+        Ok(PlainMap { words, bits })
+    }
+
+    /// The number of bits: all positions of the set lie below it.
+    pub fn bits(&self) -> u32
+        ensures { result ≡ length self.now }
+    {
+        self.bits
+    }
+
+    /// Whether a position is in the set.
+    pub fn get(&self, p: u32) -> bool
+        requires { p < length self.now }
+        ensures { result ≡ has self.now p }
+    {
+        (self.words[(p / WORD_BITS) as usize] >> (p % WORD_BITS)) & 1 == 1
+    }
+
+    /// Adds a position to the set, and changes nothing else of it. It takes no memory.
+    pub fn set(&mut self, p: u32)
+        requires { p < length self.old }
+        ensures { self.new ≡ slice_set self.old p true }
+    {
+        self.words[(p / WORD_BITS) as usize] |= 1 << (p % WORD_BITS);
+    }
+
+    /// The least position of the set that is at or above `p`, which may be any number. It goes word by word, and takes
+    /// no memory.
+    pub fn next_from(&self, p: u32) -> Option<u32>
+        ensures first { IfSome result (IsFirstFrom self.now p) }
+        ensures none { IsNone result ↔ NoneFrom self.now p }
+    {
+        let mut from = p % WORD_BITS;
+        for index in (p / WORD_BITS) as usize..self.words.len() {
+            if let Some(bit) = lowest_from(self.words[index], from) {
+                return Some(index as u32 * WORD_BITS + bit);
+            }
+            from = 0;
+        }
+        None
+    }
+}
+
+/// The lowest set bit of a word that is at or above a place.
+fn lowest_from(word: u64, from: u32) -> Option<u32>
+    requires { from < 64 }
+    ensures found { IfSome result (IsLowestFrom word from) }
+    ensures none { IfNone result ((b : ℕ) → from ≤ b → bit_at word b ≡ 0) }
+{
+    let rest = word >> from;
+    if rest == 0 {
+        None
+    } else {
+        Some(from + rest.trailing_zeros())
+    }
+}

@@ -1,0 +1,66 @@
+use crate::PlainMap;
+use std::test::Fail;
+
+#[test]
+fn one_position_of_301(rt: HostRuntime) -> Result<(), Fail> {
+    let mut map = PlainMap::new(rt.alloc(), 301)?;
+    assert_eq!(rt; map.bits(), 301);
+    assert_eq!(rt; map.next_from(0), None);
+    assert!(rt; 100 < map.bits());
+    map.set(100);
+    for (from, next) in [
+        (0, Some(100)),
+        (100, Some(100)),
+        (101, None),
+        (300, None),
+        (301, None),
+        (u32::MAX, None),
+    ] {
+        assert_eq!(rt; map.next_from(from), next, "from {from}");
+    }
+    Ok(())
+}
+
+#[test]
+fn positions_at_the_edges_of_words(rt: HostRuntime) -> Result<(), Fail> {
+    let mut map = PlainMap::new(rt.alloc(), 301)?;
+    for p in [63, 64, 127, 300] {
+        assert!(rt; p < map.bits());
+        map.set(p);
+    }
+    for (p, member) in [
+        (0, false),
+        (62, false),
+        (63, true),
+        (64, true),
+        (65, false),
+        (126, false),
+        (127, true),
+        (128, false),
+        (299, false),
+        (300, true),
+    ] {
+        assert!(rt; p < map.bits());
+        assert_eq!(rt; map.get(p), member, "at {p}");
+    }
+    for (from, next) in [
+        (0, Some(63)),
+        (63, Some(63)),
+        (64, Some(64)),
+        (65, Some(127)),
+        (128, Some(300)),
+        (300, Some(300)),
+        (301, None),
+    ] {
+        assert_eq!(rt; map.next_from(from), next, "from {from}");
+    }
+    Ok(())
+}
+
+#[test]
+fn no_bits(rt: HostRuntime) -> Result<(), Fail> {
+    let map = PlainMap::new(rt.alloc(), 0)?;
+    assert_eq!(rt; map.bits(), 0);
+    assert_eq!(rt; map.next_from(0), None);
+    Ok(())
+}
