@@ -1,0 +1,6 @@
+mod Candidates
+mod Maps
+mod Passes
+mod KeysFlaws
+mod KeysNumbers
+mod KeysSplit

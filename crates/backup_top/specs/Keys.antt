@@ -1,0 +1,29 @@
+-- The keys of a command as the program holds them.
+use Rattle.std.specs.Prelude.{ℕ, List, map}
+use Rattle.sd_base.specs.Keys.{Key}
+use Rattle.backup_top.specs.declared.keys.Key.{Key as Held}
+use Rattle.backup_top.specs.declared.keys.Spelling.{Spelling}
+use Rattle.backup_top.specs.declared.keys.Spelling.TheVariants.{Decimal, Hexadecimal}
+
+-- the base of a spelling
+abbrev pub base_of : Spelling → ℕ
+base_of Decimal = 10
+base_of Hexadecimal = 16
+
+-- the most digits of a spelling: enough for each number below 2^64
+abbrev pub most_digits_of : Spelling → ℕ
+most_digits_of Decimal = 20
+most_digits_of Hexadecimal = 16
+
+-- a key that the program holds, as the definitions have it
+abbrev pub key_held : Held → Key
+key_held key = record {
+  name = key.name.now;
+  base = base_of key.spelling;
+  most_digits = most_digits_of key.spelling;
+  least = key.least;
+  greatest = key.greatest;
+}
+
+abbrev pub keys_held : List Held → List Key
+keys_held keys = map key_held keys

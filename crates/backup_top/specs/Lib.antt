@@ -1,0 +1,4 @@
+pub mod Keys
+pub mod Notes
+pub mod Run
+pub mod Words

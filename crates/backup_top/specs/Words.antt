@@ -1,0 +1,7 @@
+-- The words of the command line as the program holds them.
+use Rattle.std.specs.Prelude.{ℕ, List, map, String, string_bytes}
+use Rattle.std.specs.declared.alloc.Global.{Global}
+
+-- the bytes of each word
+abbrev pub texts_of : List (String Global) → List (List ℕ)
+texts_of words = map string_bytes words

@@ -1,0 +1,19 @@
+//! The top of the tool: reads the words, runs the command that they name, and says how the run ended.
+#![tactic(auto)]
+
+mod cuts;
+mod keys;
+mod lines;
+mod notes;
+mod plain;
+mod plan;
+#[cfg(test)]
+mod tests;
+mod top;
+mod words;
+
+pub use notes::{note_of, status_of};
+pub use plain::plain_cuts;
+pub use sd_base::{BadKind, BadParams, BadWords, Command, Outcome, Quiet, RawParams};
+pub use top::{run, run_quiet};
+pub use words::read_words;

@@ -1,0 +1,36 @@
+ghost use Rattle.std.specs.Prelude.{◌≡◌, ◌++◌, IfOk, OnOk, length, string_bytes};
+ghost use Rattle.sd_base.specs.Cutting.{RiseWithin, parts};
+ghost use Rattle.sd_base.specs.Texts.{plan_line, plan_text};
+
+use sd_base::OutOfMemory;
+use sha2::{Digest, Sha256};
+use std::alloc::Global;
+
+/// The text of `plan`: a line for each chunk of a text, in order. The refusal is want of memory alone.
+pub fn lines_of(alloc: Global, text: &[u8], cuts: &[u32]) -> Result<String, OutOfMemory>
+    requires { RiseWithin 0 (length text.now) cuts.now }
+    ensures { IfOk result (λ lines. string_bytes lines ≡ plan_text (parts text.now 0 cuts.now)) }
+{
+    let mut lines = String::new(alloc);
+    let mut start = 0u32;
+    for cut in cuts {
+        let chunk = &text[start as usize..*cut as usize];
+        push_line(alloc, &mut lines, start, chunk)?;
+        start = *cut;
+    }
+    Ok(lines)
+}
+
+fn push_line(
+    alloc: Global,
+    lines: &mut String,
+    offset: u32,
+    chunk: &[u8],
+) -> Result<(), OutOfMemory>
+    ensures { OnOk result (string_bytes lines.new ≡ string_bytes lines.old ++ plan_line offset chunk.now) }
+{
+    let length = chunk.len();
+    let name = hex::encode(alloc, Sha256::digest(chunk))?;
+    writeln!(lines, "{offset} {length} {name}")?;
+    Ok(())
+}
