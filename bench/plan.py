@@ -1,0 +1,107 @@
+#!/usr/bin/env python3
+"""Measures `backup STORE plan` beside sha256sum and wc on the same bytes, as a Markdown table.
+
+The programs run in turn on the same file as standard input, and the table has the best time and the highest
+memory of each. wc takes it through a pipe: on a file it would look up the size and read nothing.
+"""
+
+import argparse
+import os
+import shutil
+import sys
+import tempfile
+from pathlib import Path
+from random import Random
+from subprocess import DEVNULL, PIPE, Popen
+from time import perf_counter
+
+BUILT = Path(__file__).resolve().parent.parent / "crates/backup/out/backup"
+PROGRAM = Path(os.environ.get("BACKUP", BUILT)).resolve()
+PROGRAMS = {
+    "`backup s plan`": [PROGRAM, "s", "plan"],
+    "`sha256sum`": ["sha256sum"],
+    "`wc -c`": ["wc", "-c"],
+}
+YARDSTICK = "`sha256sum`"
+PIPED = "`wc -c`"
+TIME = shutil.which("time")
+PIECE = 1_000_000
+
+
+def write_random(path, size):
+    random = Random(1)
+    with open(path, "wb") as file:
+        for start in range(0, size, PIECE):
+            file.write(random.randbytes(min(PIECE, size - start)))
+
+
+def write_tar(path, size):
+    words = ["tar", "--sort=name", "-cf", "-", "-C", "/usr", "share"]
+    with Popen(words, stdout=PIPE, stderr=DEVNULL) as tar, open(path, "wb") as file:
+        for start in range(0, size, PIECE):
+            file.write(tar.stdout.read(min(PIECE, size - start)))
+
+
+def measure(words, source, report):
+    """Runs a program once on an open file and returns its seconds and its peak memory in bytes."""
+    timed = [TIME, "-f", "%M", "-o", report] if TIME else []
+    start = perf_counter()
+    process = Popen([*timed, *words], stdin=source, stdout=DEVNULL)
+    _, status, usage = os.wait4(process.pid, 0)
+    seconds = perf_counter() - start
+    process.returncode = os.waitstatus_to_exitcode(status)
+    if process.returncode:
+        sys.exit(f"{words[0]} ended with status {process.returncode}")
+    # Without time, the peak counts what this process held when it started the program.
+    kibibytes = int(Path(report).read_text()) if TIME else usage.ru_maxrss
+    return seconds, kibibytes * 1024
+
+
+def measure_on(path, name, report):
+    if name == PIPED:
+        with Popen(["cat", path], stdout=PIPE) as cat:
+            return measure(PROGRAMS[name], cat.stdout, report)
+    with open(path, "rb") as file:
+        return measure(PROGRAMS[name], file, report)
+
+
+def measure_in_turn(path, rounds, report):
+    seconds, peaks = {}, {}
+    for _ in range(rounds):
+        for name in PROGRAMS:
+            took, peak = measure_on(path, name, report)
+            seconds[name] = min(took, seconds.get(name, took))
+            peaks[name] = max(peak, peaks.get(name, peak))
+    return seconds, peaks
+
+
+def print_rows(what, path, rounds, report):
+    size = os.path.getsize(path)
+    seconds, peaks = measure_in_turn(path, rounds, report)
+    for name in PROGRAMS:
+        speed, ratio = size / seconds[name] / 1e6, seconds[name] / seconds[YARDSTICK]
+        cells = [what, f"{size / 1e6:.0f}", name, f"{speed:.0f}", f"{ratio:.2f}"]
+        print("|", " | ".join([*cells, f"{peaks[name] / 1e6:.0f}"]), "|", flush=True)
+
+
+def main():
+    parser = argparse.ArgumentParser(description=__doc__.splitlines()[0])
+    parser.add_argument("--size", type=int, default=256_000_000, help="bytes of each input")
+    parser.add_argument("--rounds", type=int, default=3, help="runs of each program")
+    given = parser.parse_args()
+    if not os.access(PROGRAM, os.X_OK):
+        sys.exit(f"{PROGRAM} is not there or cannot be run: rt ci builds it")
+    inputs = {"random bytes": write_random}
+    if shutil.which("tar"):
+        inputs["tar of /usr/share"] = write_tar
+    print("| Input | MB | Program | MB/s | Time beside sha256sum | Peak memory, MB |")
+    print("|---|---:|---|---:|---:|---:|")
+    with tempfile.TemporaryDirectory() as room:
+        path, report = f"{room}/input", f"{room}/peak"
+        for what, write in inputs.items():
+            write(path, given.size)
+            print_rows(what, path, given.rounds, report)
+
+
+if __name__ == "__main__":
+    main()

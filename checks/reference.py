@@ -1,0 +1,174 @@
+"""A second implementation of `plan`, straight from its definition: each window is divided anew.
+
+Run as a program it compares itself with values that were worked out by hand.
+"""
+
+from dataclasses import dataclass
+from hashlib import sha256
+from random import Random
+from typing import NamedTuple
+
+WINDOW = 48
+
+
+@dataclass(frozen=True)
+class Params:
+    polynomial: int = 0x3DA3358B4DC173
+    bits: int = 13
+    target: int = 120
+    min: int = 2048
+    max: int = 65536
+
+
+def remainder(polynomial, dividend):
+    """Divides polynomials over GF(2) whose coefficients are the bits of these numbers."""
+    degree = polynomial.bit_length() - 1
+    while (excess := dividend.bit_length() - 1 - degree) >= 0:
+        dividend ^= polynomial << excess
+    return dividend
+
+
+def fingerprint(polynomial, window):
+    return remainder(polynomial, int.from_bytes(window, "big"))
+
+
+def is_candidate(params, text, position):
+    if position < WINDOW:
+        return False
+    window = text[position - WINDOW : position]
+    return fingerprint(params.polynomial, window) % 2**params.bits == params.target
+
+
+def next_cut(params, text, start):
+    end = min(start + params.max, len(text))
+    eligible = range(start + params.min, end + 1)
+    return next((it for it in eligible if is_candidate(params, text, it)), end)
+
+
+def lengths_of(params, text):
+    """The lengths of the content-defined chunks of a text, in order."""
+    lengths, start = [], 0
+    while start < len(text):
+        cut = next_cut(params, text, start)
+        lengths.append(cut - start)
+        start = cut
+    return lengths
+
+
+def lines_of(text, lengths):
+    """The lines of `plan` where a text is cut into pieces of these lengths."""
+    lines, offset = [], 0
+    for length in lengths:
+        name = sha256(text[offset : offset + length]).hexdigest()
+        lines.append(f"{offset} {length} {name}\n")
+        offset += length
+    return "".join(lines).encode()
+
+
+def plan(params, text):
+    return lines_of(text, lengths_of(params, text))
+
+
+def zeros_but(mark, places, length):
+    """Zero bytes, but for a mark at each of these places.
+
+    The fingerprint of 47 zeros and a mark is the mark, modulo every polynomial of degree 8 or
+    more. So where the target is the mark, the position behind it is a candidate.
+    """
+    text = bytearray(length)
+    for place in places:
+        text[place] = mark
+    return bytes(text)
+
+
+class KnownCut(NamedTuple):
+    params: Params
+    text: bytes
+    lengths: list
+
+
+DEFAULTS = Params()
+# Modulo t^63 + 1 a bit only moves as the window slides: one marked byte makes one candidate.
+SPARSE = Params(polynomial=0x8000000000000001, bits=13, target=1, min=64, max=256)
+SPARSE_ZERO = Params(polynomial=0x8000000000000001, bits=13, target=0, min=64, max=256)
+
+KNOWN_CUTS = {
+    "empty_input_has_no_chunk": KnownCut(DEFAULTS, b"", []),
+    "one_byte_is_a_chunk": KnownCut(DEFAULTS, b"x", [1]),
+    "zeros_are_cut_at_the_maximum": KnownCut(
+        DEFAULTS, bytes(200_000), [65536, 65536, 65536, 3392]
+    ),
+    "input_of_exactly_the_maximum_is_one_chunk": KnownCut(DEFAULTS, bytes(65536), [65536]),
+    "candidate_at_the_minimum_cuts": KnownCut(
+        DEFAULTS, zeros_but(120, [2047], 3000), [2048, 952]
+    ),
+    "candidate_before_the_minimum_is_passed_over": KnownCut(
+        DEFAULTS, zeros_but(120, [2046], 3000), [3000]
+    ),
+    "minimum_counts_from_the_last_cut": KnownCut(
+        DEFAULTS, zeros_but(120, [2047, 4094, 6200], 7000), [2048, 4153, 799]
+    ),
+    "least_candidate_cuts": KnownCut(
+        DEFAULTS, zeros_but(120, [3000, 4000], 5000), [3001, 1999]
+    ),
+    "candidate_before_the_maximum_cuts": KnownCut(
+        DEFAULTS, zeros_but(120, [65534], 70_000), [65535, 4465]
+    ),
+    "candidate_behind_the_maximum_is_too_late": KnownCut(
+        DEFAULTS, zeros_but(120, [65540], 70_000), [65536, 4464]
+    ),
+    "zeros_are_cut_at_a_given_maximum": KnownCut(SPARSE, bytes(700), [256, 256, 188]),
+    "zeros_are_cut_at_a_given_minimum": KnownCut(SPARSE_ZERO, bytes(200), [64, 64, 64, 8]),
+    "given_target_cuts": KnownCut(SPARSE, zeros_but(1, [99], 300), [100, 200]),
+    "candidate_before_a_given_minimum_is_passed_over": KnownCut(
+        SPARSE, zeros_but(1, [62], 200), [200]
+    ),
+    "candidate_at_a_given_minimum_cuts": KnownCut(SPARSE, zeros_but(1, [63], 200), [64, 136]),
+    "candidate_behind_a_given_maximum_is_too_late": KnownCut(
+        SPARSE, zeros_but(1, [256], 300), [256, 44]
+    ),
+}
+
+KNOWN_FINGERPRINTS = [
+    (SPARSE.polynomial, bytes(48), 0),
+    (SPARSE.polynomial, bytes(47) + b"\x01", 1),
+    (SPARSE.polynomial, b"\x01" + bytes(47), 2**61),
+    (SPARSE.polynomial, b"\xff" * 48, 63),
+    (DEFAULTS.polynomial, bytes(47) + b"\x78", 120),
+    # t^53 modulo the polynomial is the polynomial without its highest bit.
+    (DEFAULTS.polynomial, bytes(41) + b"\x20" + bytes(6), DEFAULTS.polynomial - 2**53),
+]
+
+
+def fingerprint_bit_by_bit(polynomial, window):
+    rest, degree = 0, polynomial.bit_length() - 1
+    for byte in window:
+        for place in range(7, -1, -1):
+            rest = 2 * rest + (byte >> place & 1)
+            if rest >> degree & 1:
+                rest ^= polynomial
+    return rest
+
+
+def self_test():
+    """Raises a ValueError at the first value that does not come out as it is known."""
+
+    def compare(what, wanted, came):
+        if wanted != came:
+            raise ValueError(f"{what}: wanted {wanted}, came {came}")
+
+    for polynomial, window, value in KNOWN_FINGERPRINTS:
+        what = f"the fingerprint of {window.hex()} modulo {polynomial:#x}"
+        compare(what, value, fingerprint(polynomial, window))
+    random = Random(48)
+    for _ in range(200):
+        window = random.randbytes(WINDOW)
+        wanted = fingerprint_bit_by_bit(DEFAULTS.polynomial, window)
+        compare(window.hex(), wanted, fingerprint(DEFAULTS.polynomial, window))
+    for name, known in KNOWN_CUTS.items():
+        compare(name, known.lengths, lengths_of(known.params, known.text))
+
+
+if __name__ == "__main__":
+    self_test()
+    print("the reference has the known values")
