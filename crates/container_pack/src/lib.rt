@@ -1,0 +1,21 @@
+//! Chunks in containers: files of at most 4 MiB that begin with a header and hold the bytes of chunks in order, without
+//! gaps. `places` says where chunks lie by their lengths, a `Packer` appends chunk after chunk through a shelf, and
+//! `read_chunk` reads one back. It stands on `sd_base`, whose `packing` says what the containers of chunks are, and on
+//! the shelf of `edge_traits`.
+#![tactic(auto)]
+
+mod fill;
+mod laws;
+mod packer;
+mod placing;
+mod reading;
+mod spot;
+
+pub use laws::{containers_only_grow, packing_is_by_groups};
+pub use packer::Packer;
+pub use placing::places;
+pub use reading::read_chunk;
+pub use spot::Spot;
+
+#[cfg(test)]
+mod tests;

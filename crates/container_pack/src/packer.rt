@@ -1,0 +1,179 @@
+ghost use Rattle.std.specs.Prelude.{◌≡◌, ◌≢◌, ◌⊎◌, ◌↔◌, ◌+◌, ◌≤◌, ◌<◌, ℕ, List, [], ◌∷◌, ◌++◌, length, map, All, true, false, IfOk, OnOk, OnErr, IsErrOf};
+ghost use Rattle.sd_base.specs.declared.limits.TheConstants.{MAX_CHUNKS};
+ghost use Rattle.sd_base.specs.Packing.{packing, header_of};
+ghost use Rattle.edge_traits.specs.declared.shelf.File.{File};
+ghost use Rattle.edge_traits.specs.declared.shelf.File.TheVariants.{Container};
+ghost use Rattle.edge_traits.specs.Faults.{Rose};
+ghost use Rattle.edge_traits.specs.Shelf.{content, SameFiles, ChangesOnly, SameLoose, MayLoosen};
+ghost use Rattle.container_pack.specs.Spots.{IsSound, LiesAt, spots_of};
+ghost use Rattle.container_pack.specs.Containers.{Begins, HasOnly, ContainersBegin};
+
+use crate::Spot;
+use crate::fill::Fill;
+use edge_traits::{EdgeFault, File, Shelf};
+use sd_base::{LARGEST_MAX, MAX_CHUNKS};
+
+/// Appends chunks to the containers of a generation. It stands behind the chunks that are there already and knows them by
+/// their lengths alone. Defined by this project.
+#[derive(Drop)]
+pub struct Packer {
+    generation: u32,
+    chunks: u32,
+    fill: Fill,
+    /// Whether the last container was cut to its chunks.
+    is_cut: bool,
+    /// The containers from this one on were appended to since the last flush.
+    first_unflushed: u32,
+    ghost sound: { IsSound fill },
+    ghost one_each: { fill.containers ≤ chunks },
+    ghost few: { chunks ≤ MAX_CHUNKS },
+    ghost unflushed: { first_unflushed ≤ fill.containers },
+}
+
+impl Packer {
+    ghost use Rattle.container_pack.specs.Packer.{generation_of, chunk_count, next_spot, next_file, IsBehind, StandsBehind, IsUnflushed, StandBefore};
+
+    /// A packer behind chunks of these lengths, which are there. It takes no memory and has touched no file.
+    pub fn resume(generation: u32, lengths: &[u32]) -> Self
+        requires some { All (λ n. 1 ≤ n) lengths.now }
+        requires bounded { All (λ n. n ≤ LARGEST_MAX) lengths.now }
+        requires few { length lengths.now ≤ MAX_CHUNKS }
+
+        ensures generation { generation_of result ≡ generation }
+        ensures count { chunk_count result ≡ length lengths.now }
+        ensures behind { IsBehind result lengths.now }
+        ensures stands { (files : _) (chunks : List (List ℕ)) → map length chunks ≡ lengths.now
+            → ContainersBegin files generation (packing chunks) → StandsBehind result files chunks }
+        ensures flushed { (k : ℕ) → ¬ IsUnflushed result k }
+    {
+        let mut fill = Fill::nothing();
+        let mut chunks = 0;
+        for length in lengths {
+            fill = fill.with_chunk(*length);
+            chunks += 1;
+        }
+        Packer {
+            generation,
+            chunks,
+            fill,
+            is_cut: false,
+            first_unflushed: fill.containers,
+        }
+    }
+
+    /// Appends a chunk behind the others, to the last container where it fits and else to a new one. Before its first byte
+    /// the packer cuts the last container to its chunks; it cuts a new one to nothing and writes its header. After a
+    /// refusal the earlier chunks stand as they stood, and the packer isn't used again. `Failed` comes only where the
+    /// shelf's count of faults rose.
+    pub fn append_chunk<F: Shelf>(&mut self, shelf: &mut F, chunk: &[u8]) -> Result<Spot, EdgeFault>
+        requires some { 1 ≤ length chunk.now }
+        requires bounded { length chunk.now ≤ LARGEST_MAX }
+        requires few { chunk_count self.old < MAX_CHUNKS }
+
+        ensures generation { generation_of self.new ≡ generation_of self.old }
+        ensures count { OnOk result (chunk_count self.new ≡ chunk_count self.old + 1) }
+        ensures spot { IfOk result (λ spot. spot ≡ next_spot self.old (length chunk.now)) }
+        ensures placed { (lengths : List ℕ) → IsBehind self.old lengths
+            → IfOk result (λ spot. spots_of (lengths ++ length chunk.now ∷ []) ≡ spots_of lengths ++ spot ∷ []) }
+        ensures behind { (lengths : List ℕ) → IsBehind self.old lengths
+            → OnOk result (IsBehind self.new (lengths ++ length chunk.now ∷ [])) }
+        ensures lies { (chunks : List (List ℕ)) → IsBehind self.old (map length chunks)
+            → IfOk result (λ spot. LiesAt (packing (chunks ++ chunk.now ∷ [])) spot chunk.now) }
+
+        // The containers begin with the chunks before and with this one; after a refusal with the chunks before.
+        ensures packed { (chunks : List (List ℕ)) → StandsBehind self.old (F.files shelf.old) chunks
+            → OnOk result (StandsBehind self.new (F.files shelf.new) (chunks ++ chunk.now ∷ [])) }
+        ensures earlier_chunks { (chunks : List (List ℕ)) → StandsBehind self.old (F.files shelf.old) chunks
+            → OnErr result (ContainersBegin (F.files shelf.new) (generation_of self.old) (packing chunks)) }
+        ensures other_files { ChangesOnly (next_file self.old (length chunk.now)) (F.files shelf.old) (F.files shelf.new) }
+
+        ensures unflushed { (k : ℕ) → IfOk result (λ spot. IsUnflushed self.new k ↔ (IsUnflushed self.old k ⊎ (k ≡ spot.container))) }
+        ensures may_loosen { MayLoosen (next_file self.old (length chunk.now)) (F.loose shelf.old) (F.loose shelf.new) }
+
+        ensures failed { IsErrOf result EdgeFault.Failed → Rose (F.faults shelf.old) (F.faults shelf.new) }
+        ensures never_falls { F.faults shelf.old ≤ F.faults shelf.new }
+    {
+        let length = chunk.len() as u32;
+        let fill = self.fill.with_chunk(length);
+        let spot = fill.last_spot(length);
+        self.make_ready(shelf, spot)?;
+        shelf.append(File::Container(self.generation, spot.container), chunk)?;
+        self.chunks += 1;
+        self.fill = fill;
+        self.is_cut = true;
+        self.first_unflushed = self.first_unflushed.min(spot.container);
+        Ok(spot)
+    }
+
+    /// Flushes each container that was appended to since the last flush. After a refusal some of them may be flushed, and
+    /// the packer isn't used again. `Failed` comes only where the shelf's count of faults rose.
+    pub fn flush<F: Shelf>(&mut self, shelf: &mut F) -> Result<(), EdgeFault>
+        ensures flushed { (k : ℕ) → IsUnflushed self.old k
+            → OnOk result (F.loose shelf.new (Container (generation_of self.old) k) ≡ false) }
+        ensures none_left { (k : ℕ) → OnOk result (¬ IsUnflushed self.new k) }
+        ensures loosens_none { (f : File) → F.loose shelf.old f ≡ false → F.loose shelf.new f ≡ false }
+        ensures other_files { (f : File) → ((k : ℕ) → IsUnflushed self.old k → f ≢ Container (generation_of self.old) k)
+            → F.loose shelf.new f ≡ F.loose shelf.old f }
+
+        ensures same_files { SameFiles (F.files shelf.old) (F.files shelf.new) }
+        ensures generation { generation_of self.new ≡ generation_of self.old }
+        ensures count { chunk_count self.new ≡ chunk_count self.old }
+        ensures behind { (lengths : List ℕ) → IsBehind self.old lengths → IsBehind self.new lengths }
+        ensures stands { (chunks : List (List ℕ)) → StandsBehind self.old (F.files shelf.old) chunks
+            → StandsBehind self.new (F.files shelf.new) chunks }
+
+        ensures failed { IsErrOf result EdgeFault.Failed → Rose (F.faults shelf.old) (F.faults shelf.new) }
+        ensures never_falls { F.faults shelf.old ≤ F.faults shelf.new }
+    {
+        for number in self.first_unflushed..self.fill.containers {
+            shelf.flush(File::Container(self.generation, number))?;
+        }
+        self.first_unflushed = self.fill.containers;
+        Ok(())
+    }
+
+    /// Leaves in the container of a spot what stands before the spot, and nothing behind it.
+    fn make_ready<F: Shelf>(&self, shelf: &mut F, spot: Spot) -> Result<(), EdgeFault>
+        ensures ready { (had : List ℕ) → StandBefore self.now (F.files shelf.old) spot had
+            → OnOk result (HasOnly (content (F.files shelf.new) (Container (generation_of self.now) spot.container)) had) }
+        ensures kept { (had : List ℕ) → StandBefore self.now (F.files shelf.old) spot had → spot.container ≢ self.now.fill.containers
+            → Begins (content (F.files shelf.new) (Container (generation_of self.now) spot.container)) had }
+
+        ensures other_files { ChangesOnly (Container (generation_of self.now) spot.container) (F.files shelf.old) (F.files shelf.new) }
+        ensures may_loosen { MayLoosen (Container (generation_of self.now) spot.container) (F.loose shelf.old) (F.loose shelf.new) }
+
+        ensures failed { IsErrOf result EdgeFault.Failed → Rose (F.faults shelf.old) (F.faults shelf.new) }
+        ensures never_falls { F.faults shelf.old ≤ F.faults shelf.new }
+    {
+        let file = File::Container(self.generation, spot.container);
+        if spot.container == self.fill.containers {
+            return open_container(shelf, file, spot.container);
+        }
+        if self.is_cut {
+            return Ok(());
+        }
+        shelf.cut(file, u64::from(spot.offset))
+    }
+}
+
+/// Leaves in the file of a container its header alone.
+fn open_container<F: Shelf>(shelf: &mut F, file: File, number: u32) -> Result<(), EdgeFault>
+    ensures opened { OnOk result (HasOnly (content (F.files shelf.new) file) (header_of number)) }
+
+    ensures other_files { ChangesOnly file (F.files shelf.old) (F.files shelf.new) }
+    ensures may_loosen { MayLoosen file (F.loose shelf.old) (F.loose shelf.new) }
+
+    ensures failed { IsErrOf result EdgeFault.Failed → Rose (F.faults shelf.old) (F.faults shelf.new) }
+    ensures never_falls { F.faults shelf.old ≤ F.faults shelf.new }
+{
+    shelf.cut(file, 0)?;
+    shelf.append(file, &header(number))
+}
+
+/// The first bytes of a container: its mark and its number.
+fn header(number: u32) -> [u8; 8]
+    ensures { result ≡ header_of number }
+{
+    let [a, b, c, d] = number.to_be_bytes();
+    [b'S', b'S', b'C', b'P', a, b, c, d]
+}
