@@ -1,0 +1,9 @@
+pub mod Sizes
+pub mod Loop
+pub mod Fields
+pub mod Bodies
+pub mod Steps
+pub mod Adding
+pub mod Replaying
+pub mod Flaws
+pub mod OneReading

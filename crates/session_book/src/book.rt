@@ -1,0 +1,215 @@
+//! The book of a store.
+ghost use Rattle.std.specs.Prelude.{◌≡◌, [], length, option_map, option_copied, IfOk, OnOk, OnErr, IsTrue, ◌↔◌, ◌≤◌};
+ghost use Rattle.std.specs.List.{All, slice_get};
+ghost use Rattle.sd_base.specs.Records.{IsInLimits, HasSpelling};
+ghost use Rattle.session_book.specs.BookFields.{HasRoom};
+ghost use Rattle.sd_base.specs.Books.{BookState, chunks_in, places_in, is_live, live_session, without, MayIngest, MayFollow, recipe_damage, with_record};
+
+use crate::recipes::first_flaw;
+use crate::writing::ingest_len;
+use sd_base::{
+    Damage, IngestRecord, MAX_CHUNKS, MAX_PLACES, MAX_SESSIONS, Name, NewChunk, OutOfMemory,
+    Record, Session,
+};
+use std::alloc::Global;
+use std::marker::Model;
+
+/// The sessions of a store and its chunks, as its records say: contracts see the sessions, the length of the records
+/// and the longest chunk that may stand in them. Defined by this project.
+#[derive(Debug, Drop)]
+pub struct Book {
+    sessions: Vec<Session>,
+    chunks: Vec<NewChunk>,
+    places: u32,
+    used: u64,
+    max: u32,
+}
+
+impl Model for Book {
+    ghost use Rattle.sd_base.specs.Books.{BookState};
+
+    ghost Value = { BookState };
+
+    ghost use Rattle.session_book.specs.BookFields.{IsBook, state_of};
+
+    ghost view = { state_of };
+
+    ghost invariant = { IsBook };
+}
+
+impl Book {
+    // The book of no records.
+    pub(crate) fn empty(alloc: Global, max: u32) -> Book
+        ensures { result ≡ record { sessions = []; used = 0; max = max } }
+    {
+        Book {
+            sessions: Vec::new(alloc),
+            chunks: Vec::new(alloc),
+            places: 0,
+            used: 0,
+            max,
+        }
+    }
+
+    /// Adds a record that may follow those of the book. It is refused for want of memory alone, and the book is then as
+    /// it was.
+    pub fn add(&mut self, entry: Record) -> Result<(), OutOfMemory>
+        requires spelled { HasSpelling entry }
+        requires follows { MayFollow self.old.max self.old.sessions entry }
+        ensures added { OnOk result (self.new ≡ with_record self.old entry) }
+        ensures unchanged { OnErr result (self.new ≡ self.old) }
+    {
+        match entry {
+            Record::Ingest(entry) => self.ingest(entry),
+            Record::Drop(session) => {
+                self.drop_session(session);
+                Ok(())
+            }
+        }
+    }
+
+    // Adds an ingest.
+    fn ingest(&mut self, entry: IngestRecord) -> Result<(), OutOfMemory>
+        requires spelled { IsInLimits entry }
+        requires follows { MayIngest self.old.max self.old.sessions entry }
+        ensures added { OnOk result (self.new ≡ with_record self.old (Record.Ingest entry)) }
+        ensures unchanged { OnErr result (self.new ≡ self.old) }
+    {
+        let size = ingest_len(&entry);
+        let places = entry.recipe.as_slice().len() as u32;
+        let before = self.chunks.len();
+        self.chunks.extend_from_slice(entry.fresh.as_slice())?;
+        if self.sessions.push(Session { entry, live: true }).is_err() {
+            self.chunks.truncate(before);
+            return Err(OutOfMemory);
+        }
+        self.places += places;
+        self.used += size as u64;
+        Ok(())
+    }
+
+    // Adds a drop.
+    fn drop_session(&mut self, session: u32)
+        requires { IsTrue (is_live self.old.sessions session) }
+        ensures { self.new ≡ with_record self.old (Record.Drop session) }
+    {
+        mark_dropped(&mut self.sessions, session);
+        self.used += 41;
+    }
+
+    // Whether a record may follow those of the book.
+    pub(crate) fn may_add(&self, entry: &Record) -> bool
+        ensures { IsTrue result ↔ MayFollow self.now.max self.now.sessions entry.now }
+    {
+        match entry {
+            Record::Ingest(entry) => self.may_ingest(entry),
+            Record::Drop(session) => self.live(*session),
+        }
+    }
+
+    // Whether an ingest may follow the records of the book.
+    fn may_ingest(&self, entry: &IngestRecord) -> bool
+        ensures { IsTrue result ↔ MayIngest self.now.max self.now.sessions entry.now }
+    {
+        are_short(entry.fresh.as_slice(), self.max)
+            && self.find(&entry.name).is_none()
+            && self.has_room(entry)
+    }
+
+    // Whether an ingest keeps the book in its limits.
+    fn has_room(&self, entry: &IngestRecord) -> bool
+        ensures { IsTrue result ↔ HasRoom self.now.sessions entry.now }
+    {
+        self.sessions.len() < MAX_SESSIONS as usize
+            && entry.recipe.as_slice().len() <= (MAX_PLACES - self.places) as usize
+            && entry.fresh.as_slice().len() <= MAX_CHUNKS as usize - self.chunks.len()
+    }
+
+    // The first recipe that fails.
+    pub(crate) fn first_flaw(&self) -> Option<Damage>
+        ensures { result ≡ recipe_damage [] 0 self.now.sessions }
+    {
+        first_flaw(&self.sessions, &self.chunks)
+    }
+
+    /// Whether the session of a number is there and is live.
+    pub fn live(&self, session: u32) -> bool
+        ensures { result ≡ is_live self.now.sessions session }
+    {
+        match self.sessions.as_slice().get(session as usize) {
+            Some(session) => session.live,
+            None => false,
+        }
+    }
+
+    /// What the ingest of a session holds, live or dropped. There is none exactly where no session has the number.
+    pub fn session(&self, session: u32) -> Option<&IngestRecord>
+        ensures { option_copied result ≡ option_map (λ session. session.entry) (slice_get self.now.sessions session) }
+    {
+        match self.sessions.as_slice().get(session as usize) {
+            Some(session) => Some(&session.entry),
+            None => None,
+        }
+    }
+
+    /// The live session of a name. There is none exactly where no live session has the name.
+    pub fn find(&self, name: &Name) -> Option<u32>
+        ensures { result ≡ live_session self.now.sessions name.now }
+    {
+        match live_place(self.sessions.as_slice(), name) {
+            Some(place) => Some(place as u32),
+            None => None,
+        }
+    }
+
+    /// The chunks, in order of first occurrence.
+    pub fn chunks(&self) -> &[NewChunk]
+        ensures { result.now ≡ chunks_in self.now.sessions }
+    {
+        &self.chunks
+    }
+
+    /// The number of sessions, dropped ones too.
+    pub fn sessions(&self) -> u32
+        ensures { result ≡ length self.now.sessions }
+    {
+        self.sessions.len() as u32
+    }
+
+    /// The number of places of all sessions, dropped ones too.
+    pub fn places(&self) -> u32
+        ensures { result ≡ places_in self.now.sessions }
+    {
+        self.places
+    }
+
+    /// The length of the records.
+    pub fn used(&self) -> u64
+        ensures { result ≡ self.now.used }
+    {
+        self.used
+    }
+}
+
+// The place of the live session of a name.
+fn live_place(sessions: &[Session], name: &Name) -> Option<usize>
+    ensures { result ≡ live_session sessions.now name.now }
+{
+    let bytes = name.as_bytes();
+    sessions.iter().position(|session| session.live && session.entry.name.as_bytes() == bytes)
+}
+
+// Marks a live session as dropped.
+fn mark_dropped(sessions: &mut Vec<Session>, session: u32)
+    requires { IsTrue (is_live sessions.old.items session) }
+    ensures { sessions.new.items ≡ without session sessions.old.items }
+{
+    sessions[session as usize].live = false;
+}
+
+// Whether no chunk is longer than a maximum.
+fn are_short(chunks: &[NewChunk], max: u32) -> bool
+    ensures { IsTrue result ↔ All (λ chunk. chunk.length ≤ max) chunks.now }
+{
+    chunks.iter().all(|chunk| chunk.length <= max)
+}

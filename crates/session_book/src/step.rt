@@ -1,0 +1,91 @@
+//! The record at the front of a book.
+ghost use Rattle.std.specs.Prelude.{◌≡◌, ◌↔◌, ℕ, ◌<◌, ◌^◌, List, ◌++◌, length, option_map, IfOk};
+ghost use Rattle.std.specs.Str.{bytes_eq};
+ghost use Rattle.sha2.specs.Sha256.{sha256};
+ghost use Rattle.sd_base.specs.Records.{digested, spelling_of, IsRecord, IsShort, BeginsWith, BeginsWithNone};
+ghost use Rattle.session_book.specs.Reading.{parts_at, step_of_body, step_of};
+
+use crate::reading::{Stop, record_in, split_front, split_number};
+use sd_base::{OutOfMemory, Record};
+use sha2::{Digest, Sha256};
+use std::alloc::Global;
+
+/// What stands at the front of a book. Defined by this project.
+#[derive(Debug, Drop)]
+pub enum Step {
+    /// A record, and how many bytes spell it.
+    Whole(Record, u32),
+    /// Fewer bytes than the record has that they begin.
+    Short,
+    /// As many bytes, and no record of the grammar.
+    Bad,
+}
+
+/// The record at the front of bytes. It is refused for want of memory alone, and takes none for what the bytes do not
+/// hold: what they state is looked at once they are there.
+pub fn next_record(alloc: Global, bytes: &[u8]) -> Result<Step, OutOfMemory>
+    // A record is found exactly where the first bytes are its spelling.
+    ensures whole { IfOk result (λ step. (entry : Record) (k : ℕ) → (step ≡ Step.Whole entry k) ↔ BeginsWith bytes.now entry k) }
+    ensures short { IfOk result (λ step. (step ≡ Step.Short) ↔ IsShort bytes.now) }
+    ensures bad { IfOk result (λ step. (step ≡ Step.Bad) ↔ BeginsWithNone bytes.now) }
+
+    // What was written is read again, whatever follows.
+    ensures again { IfOk result (λ step. (entry : Record) (rest : List ℕ) → IsRecord entry → bytes.now ≡ spelling_of entry ++ rest
+        → step ≡ Step.Whole entry (length (spelling_of entry))) }
+{
+    front_step(alloc, bytes)
+}
+
+// The step of bytes, as reading from left to right gives it.
+#[tactic(auto, unfolding(crate::specs::Reading::step_of))]
+fn front_step(alloc: Global, bytes: &[u8]) -> Result<Step, OutOfMemory>
+    ensures { IfOk result (λ step. step ≡ step_of bytes.now) }
+{
+    match parts(bytes) {
+        None => Ok(Step::Short),
+        Some((kind, body, digest, _)) => body_step(alloc, kind, body, digest),
+    }
+}
+
+// The kind, the body and the digest of the record that bytes begin, and what stands behind it.
+#[tactic(auto, unfolding(crate::specs::Reading::parts_at))]
+fn parts(bytes: &[u8]) -> Option<(u8, &[u8], &[u8], &[u8])>
+    ensures { option_map (λ x. (x.0, x.1.now, x.2.now, x.3.now)) result ≡ parts_at bytes.now }
+{
+    match bytes {
+        [] => None,
+        [kind, rest @ ..] => {
+            let (size, rest) = split_number(rest)?;
+            let (body, rest) = split_front(rest, size as usize)?;
+            let (digest, rest) = split_front(rest, 32)?;
+            Some((*kind, body, digest, rest))
+        }
+    }
+}
+
+// The step of a kind, a body and a digest.
+fn body_step(alloc: Global, kind: u8, body: &[u8], digest: &[u8]) -> Result<Step, OutOfMemory>
+    requires { length body.now < 2 ^ 32 }
+    ensures { IfOk result (λ step. step ≡ step_of_body kind body.now digest.now) }
+{
+    if !is_digest(kind, body, digest) {
+        return Ok(Step::Bad);
+    }
+    match record_in(alloc, kind, body) {
+        Ok(entry) => Ok(Step::Whole(entry, 37 + body.len() as u32)),
+        Err(Stop::Unspelled) => Ok(Step::Bad),
+        Err(Stop::Memory) => Err(OutOfMemory),
+    }
+}
+
+// Whether the digest is that of the kind and the body.
+fn is_digest(kind: u8, body: &[u8], digest: &[u8]) -> bool
+    requires { length body.now < 2 ^ 32 }
+    ensures { result ≡ bytes_eq (sha256 (digested kind body.now)) digest.now }
+{
+    let mut hasher = Sha256::new();
+    hasher.update([kind].as_slice());
+    hasher.update((body.len() as u32).to_be_bytes().as_slice());
+    hasher.update(body);
+    hasher.finalize().as_slice() == digest
+}

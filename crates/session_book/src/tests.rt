@@ -1,0 +1,171 @@
+use crate::{Record, Step, encode_record, next_record};
+use sd_base::OutOfMemory;
+use sha2::{Digest, Sha256};
+use std::alloc::{AllocError, Global};
+use std::test::Fail;
+
+#[derive(Clone, Copy, Debug, PartialEq, Eq)]
+enum Seen {
+    Whole(u32),
+    Short,
+    Bad,
+    NoMemory,
+}
+
+fn answer(alloc: Global, bytes: &[u8]) -> Seen {
+    match next_record(alloc, bytes) {
+        Ok(Step::Whole(_, used)) => Seen::Whole(used),
+        Ok(Step::Short) => Seen::Short,
+        Ok(Step::Bad) => Seen::Bad,
+        Err(OutOfMemory) => Seen::NoMemory,
+    }
+}
+
+// Parts joined, as a body of a kind with its digest.
+pub fn sealed(alloc: Global, kind: u8, parts: &[&[u8]]) -> Result<Vec<u8>, AllocError> {
+    let mut body = Vec::new(alloc);
+    for part in parts {
+        body.extend_from_slice(part)?;
+    }
+    let mut out = Vec::new(alloc);
+    out.push(kind)?;
+    out.extend_from_slice(&(body.len() as u64).to_be_bytes()[4..])?;
+    out.extend_from_slice(body.as_slice())?;
+    let digest = Sha256::digest(out.as_slice());
+    out.extend_from_slice(&digest)?;
+    Ok(out)
+}
+
+// The spelling of the record that bytes begin with.
+fn written_again(alloc: Global, bytes: &[u8]) -> Option<Vec<u8>> {
+    match next_record(alloc, bytes) {
+        Ok(Step::Whole(entry, _)) => encode_record(alloc, &entry).ok(),
+        _ => None,
+    }
+}
+
+#[test]
+fn a_drop_is_read_again_whatever_follows(rt: HostRuntime) -> Result<(), Fail> {
+    let alloc = rt.alloc();
+    let bytes = encode_record(alloc, &Record::Drop(0)).ok();
+    let mut bytes = bytes.ok_or("there is memory")?;
+    assert_eq!(rt; bytes.len(), 41);
+    let front = bytes.as_slice().get(..9).ok_or("9 bytes")?;
+    assert_eq!(rt; front, [b'D', 0, 0, 0, 4, 0, 0, 0, 0].as_slice());
+    assert_eq!(rt; answer(alloc, &bytes), Seen::Whole(41));
+    let front = bytes.as_slice().get(..40).ok_or("40 bytes")?;
+    assert_eq!(rt; answer(alloc, front), Seen::Short);
+    bytes.push(0xFF)?;
+    assert_eq!(rt; answer(alloc, &bytes), Seen::Whole(41));
+    Ok(())
+}
+
+// An ingest named `a` of 200 zeros, cut into three chunks of 64 zeros and one of 8.
+#[test]
+fn an_ingest_has_its_one_spelling(rt: HostRuntime) -> Result<(), Fail> {
+    let alloc = rt.alloc();
+    let zeros = Sha256::digest([0; 64].as_slice());
+    let fewer = Sha256::digest([0; 8].as_slice());
+    let parts: [&[u8]; 8] = [
+        b"\x01a\0\0\0\xc8",
+        &[0, 0, 0, 2, 0, 0, 0, 64],
+        &zeros,
+        &[0, 0, 0, 8],
+        &fewer,
+        &[0, 0, 0, 4],
+        &[0; 12],
+        &[0, 0, 0, 1],
+    ];
+    let bytes = sealed(alloc, b'I', &parts)?;
+    assert_eq!(rt; bytes.len(), 139);
+    assert_eq!(rt; answer(alloc, &bytes), Seen::Whole(139));
+    let again = written_again(alloc, &bytes).ok_or("a record")?;
+    assert_eq!(rt; again.as_slice(), bytes.as_slice());
+    Ok(())
+}
+
+#[test]
+fn bodies_in_the_grammar_and_not(rt: HostRuntime) -> Result<(), Fail> {
+    let alloc = rt.alloc();
+    let zero: &[u8] = &[0; 4];
+    let one: &[u8] = &[0, 0, 0, 1];
+    let many: &[u8] = &[0xFF; 4];
+    let longest: &[u8] = &[0, 0x10, 0, 0];
+    let too_long: &[u8] = &[0, 0x10, 0, 1];
+    let name: &[u8] = &[7; 32];
+    let a: &[u8] = b"\x01a";
+    let letters: &[u8] = &[65; 66];
+    let none: &[u8] = &[];
+    let cases: [(u8, [&[u8]; 7], Seen); 18] = [
+        (
+            b'D',
+            [zero, none, none, none, none, none, none],
+            Seen::Whole(41),
+        ),
+        (b'D', [zero, b"\0", none, none, none, none, none], Seen::Bad),
+        (
+            b'D',
+            [&zero[..3], none, none, none, none, none, none],
+            Seen::Bad,
+        ),
+        (b'E', [zero, none, none, none, none, none, none], Seen::Bad),
+        (b'I', [zero, none, none, none, none, none, none], Seen::Bad),
+        (
+            b'I',
+            [a, zero, zero, zero, none, none, none],
+            Seen::Whole(51),
+        ),
+        (b'D', [a, zero, zero, zero, none, none, none], Seen::Bad),
+        (b'I', [a, zero, zero, zero, b"\0", none, none], Seen::Bad),
+        (b'I', [b"\0", zero, zero, zero, none, none, none], Seen::Bad),
+        (
+            b'I',
+            [b"\x01.", zero, zero, zero, none, none, none],
+            Seen::Bad,
+        ),
+        (
+            b'I',
+            [letters, zero, zero, zero, none, none, none],
+            Seen::Bad,
+        ),
+        (b'I', [a, zero, one, one, name, zero, none], Seen::Whole(87)),
+        (
+            b'I',
+            [a, zero, one, longest, name, zero, none],
+            Seen::Whole(87),
+        ),
+        (b'I', [a, zero, one, zero, name, zero, none], Seen::Bad),
+        (b'I', [a, zero, one, too_long, name, zero, none], Seen::Bad),
+        (b'I', [a, zero, many, one, name, zero, none], Seen::Bad),
+        (
+            b'I',
+            [a, zero, zero, one, many, none, none],
+            Seen::Whole(55),
+        ),
+        (b'I', [a, zero, zero, many, many, none, none], Seen::Bad),
+    ];
+    for (kind, parts, want) in &cases {
+        let bytes = sealed(alloc, *kind, parts)?;
+        assert_eq!(rt; answer(alloc, &bytes), *want);
+    }
+    Ok(())
+}
+
+#[test]
+fn no_cut_and_no_changed_byte_is_whole(rt: HostRuntime) -> Result<(), Fail> {
+    let alloc = rt.alloc();
+    let bytes = sealed(alloc, b'I', &[b"\x01a", &[0; 11], &[1], &[0; 4]])?;
+    assert_eq!(rt; answer(alloc, &bytes), Seen::Whole(55));
+    for i in 0..bytes.len() {
+        let front = bytes.as_slice().get(..i).ok_or("a front")?;
+        assert_eq!(rt; answer(alloc, front), Seen::Short);
+        let mut changed = bytes.clone()?;
+        if let Some(byte) = changed.get_mut(i) {
+            *byte ^= 0x10;
+        }
+        assert!(rt; answer(alloc, &changed) != Seen::Whole(55));
+    }
+    assert_eq!(rt; answer(alloc, &[0xFF; 200]), Seen::Short);
+    assert_eq!(rt; answer(alloc, &[0; 200]), Seen::Bad);
+    Ok(())
+}

@@ -1,0 +1,147 @@
+//! Records as bytes.
+ghost use Rattle.std.specs.Prelude.{◌≡◌, ◌++◌, ◌+◌, ◌*◌, ◌<◌, ◌≤◌, ◌^◌, length, IfOk, OnOk};
+ghost use Rattle.std.specs.List.{All, flat_map};
+ghost use Rattle.sd_base.specs.Records.{number, new_chunk, ingest_body, digested, kind_of, body_of, spelling_of, HasSpelling, IsInLimits, IsIngest, IsRecord};
+
+use sd_base::{IngestRecord, MAX_CHUNKS, NewChunk, OutOfMemory, Record};
+use sha2::{Digest, Sha256};
+use std::alloc::{AllocError, Global};
+
+/// The one spelling of a record whose lists are in the limits: such a record is of the grammar, so `next_record` reads
+/// it again. It is refused for want of memory alone.
+#[tactic(auto, unfolding(sd_base::specs::Records::spelling_of))]
+pub fn encode_record(alloc: Global, entry: &Record) -> Result<Vec<u8>, OutOfMemory>
+    requires { HasSpelling entry.now }
+    ensures spelled { IfOk result (λ bytes. bytes.items ≡ spelling_of entry.now) }
+    ensures lawful { IsRecord entry.now }
+{
+    let mut out = Vec::new(alloc);
+    put_digested(&mut out, entry)?;
+    let digest = Sha256::digest(out.as_slice());
+    out.extend_from_slice(&digest)?;
+    Ok(out)
+}
+
+// Writes a record but for its digest.
+fn put_digested(out: &mut Vec<u8>, entry: &Record) -> Result<(), AllocError>
+    requires { HasSpelling entry.now }
+    ensures written { OnOk result (out.new.items ≡ out.old.items ++ digested (kind_of entry.now) (body_of entry.now)) }
+    ensures lawful { IsRecord entry.now }
+{
+    match entry {
+        Record::Ingest(ingest) => put_ingest(out, ingest),
+        Record::Drop(session) => put_drop(out, *session),
+    }
+}
+
+// Writes a drop but for its digest.
+fn put_drop(out: &mut Vec<u8>, session: u32) -> Result<(), AllocError>
+    ensures written { OnOk result (out.new.items ≡ out.old.items ++ digested 68 (number session)) }
+    ensures fits { session < 2 ^ 32 }
+{
+    out.push(b'D')?;
+    out.extend_from_slice(&4u32.to_be_bytes())?;
+    out.extend_from_slice(&session.to_be_bytes())
+}
+
+// Writes an ingest but for its digest.
+fn put_ingest(out: &mut Vec<u8>, entry: &IngestRecord) -> Result<(), AllocError>
+    requires { IsInLimits entry.now }
+    ensures written { OnOk result (out.new.items ≡ out.old.items ++ digested 73 (ingest_body entry.now)) }
+    ensures lawful { IsIngest entry.now }
+{
+    let size = body_len(entry);
+    out.push(b'I')?;
+    out.extend_from_slice(&size.to_be_bytes())?;
+    put_body(out, entry)
+}
+
+// The number of bytes of an ingest's spelling, with room for that of a drop.
+pub fn ingest_len(entry: &IngestRecord) -> u32
+    requires { IsInLimits entry.now }
+    ensures spelled { result ≡ length (spelling_of (Record.Ingest entry.now)) }
+    ensures small { result + 41 ≤ 2 ^ 30 }
+{
+    37 + body_len(entry)
+}
+
+// The number of bytes of an ingest's body.
+#[tactic(auto, using(crate::proofs::Sizes::length_ingest_body, crate::proofs::Sizes::length_entries))]
+fn body_len(entry: &IngestRecord) -> u32
+    requires { IsInLimits entry.now }
+    ensures size { result ≡ length (ingest_body entry.now) }
+    ensures lawful { IsIngest entry.now }
+{
+    let name = entry.name.as_bytes();
+    let chunks = chunks_len(entry.fresh.as_slice());
+    let entries = entry.recipe.as_slice();
+    numbers_fit(entry.length, entries);
+    (13 + name.len() + chunks + 4 * entries.len()) as u32
+}
+
+// The number of bytes of new chunks.
+fn chunks_len(chunks: &[NewChunk]) -> usize
+    requires { length chunks.now ≤ MAX_CHUNKS }
+    ensures spelled { result ≡ length (flat_map new_chunk chunks.now) }
+    ensures each { result ≡ 36 * length chunks.now }
+    ensures names { All (λ chunk. length chunk.name ≡ 32) chunks.now }
+{
+    let mut size = 0;
+    for chunk in chunks {
+        size += 4 + name_len(&chunk.name);
+    }
+    size
+}
+
+// Numbers are below the limit of their type. It does nothing.
+fn numbers_fit(length: u32, entries: &[u32])
+    ensures one { length < 2 ^ 32 }
+    ensures each { All (λ n. n < 2 ^ 32) entries.now }
+{}
+
+// The number of bytes of a name.
+fn name_len(name: &[u8; 32]) -> usize
+    ensures is { result ≡ length name.now }
+    ensures always { result ≡ 32 }
+{
+    name.as_slice().len()
+}
+
+// Writes the body of an ingest.
+#[tactic(auto, unfolding(sd_base::specs::Records::ingest_body))]
+fn put_body(out: &mut Vec<u8>, entry: &IngestRecord) -> Result<(), AllocError>
+    requires { IsInLimits entry.now }
+    ensures { OnOk result (out.new.items ≡ out.old.items ++ ingest_body entry.now) }
+{
+    let name = entry.name.as_bytes();
+    out.push(name.len() as u8)?;
+    out.extend_from_slice(name)?;
+    out.extend_from_slice(&entry.length.to_be_bytes())?;
+    put_chunks(out, entry.fresh.as_slice())?;
+    put_entries(out, entry.recipe.as_slice())
+}
+
+// Writes new chunks behind their number.
+fn put_chunks(out: &mut Vec<u8>, chunks: &[NewChunk]) -> Result<(), AllocError>
+    requires { length chunks.now < 2 ^ 32 }
+    ensures { OnOk result (out.new.items ≡ out.old.items ++ (number (length chunks.now) ++ flat_map new_chunk chunks.now)) }
+{
+    out.extend_from_slice(&(chunks.len() as u32).to_be_bytes())?;
+    for chunk in chunks {
+        out.extend_from_slice(&chunk.length.to_be_bytes())?;
+        out.extend_from_slice(&chunk.name)?;
+    }
+    Ok(())
+}
+
+// Writes the entries of a recipe behind their number.
+fn put_entries(out: &mut Vec<u8>, entries: &[u32]) -> Result<(), AllocError>
+    requires { length entries.now < 2 ^ 32 }
+    ensures { OnOk result (out.new.items ≡ out.old.items ++ (number (length entries.now) ++ flat_map number entries.now)) }
+{
+    out.extend_from_slice(&(entries.len() as u32).to_be_bytes())?;
+    for entry in entries {
+        out.extend_from_slice(&entry.to_be_bytes())?;
+    }
+    Ok(())
+}
