@@ -71,6 +71,15 @@ def expect_refusal(came, status, note):
     expect(came, status, notes=f"backup: {note}\n".encode())
 
 
+def expect_refusals(status, note, rows):
+    """Runs each row's words, and names those whose refusal is not the note with the row's end."""
+    for words, end in rows:
+        try:
+            expect_refusal(run(words, b"abc"), status, f"{note} {end}")
+        except Mismatch as mismatch:
+            raise Mismatch(f"words {words}: {mismatch}") from None
+
+
 def keys_of(params):
     """The keys that `plan` needs to cut by these parameters."""
     if params == DEFAULTS:
@@ -266,11 +275,8 @@ BAD_PARAMS = [
 
 @test
 def bad_parameters_are_refused_by_the_first_kind():
-    for keys, kind in BAD_PARAMS:
-        try:
-            expect_refusal(run(["store", "plan", *keys], b"abc"), 14, f"bad parameter: {kind}")
-        except Mismatch as mismatch:
-            raise Mismatch(f"keys {keys}: {mismatch}") from None
+    rows = ((["store", "plan", *keys], kind) for keys, kind in BAD_PARAMS)
+    expect_refusals(14, "bad parameter:", rows)
 
 
 MISSING, COMMAND, KEY, VALUE = "0: missing", "0: command", "1: key", "1: value"
@@ -285,6 +291,10 @@ WRONG_WORDS = [
     (["store", "plans"], COMMAND),
     (["store", ""], COMMAND),
     (["store", "store", "plan"], COMMAND),
+    # Words that are not UTF-8 have no place.
+    (["store", b"\xff"], COMMAND),
+    (["store", "plan", b"\xff"], COMMAND),
+    ([b"\xff", "plan"], COMMAND),
     (["store", "plan", "speed=3"], KEY),
     (["store", "plan", "plan"], KEY),
     (["store", "plan", ""], KEY),
@@ -314,11 +324,7 @@ WRONG_WORDS = [
 
 @test
 def wrong_words_are_refused_by_their_place():
-    for words, place in WRONG_WORDS:
-        try:
-            expect_refusal(run(words, b"abc"), 2, f"bad words at {place}")
-        except Mismatch as mismatch:
-            raise Mismatch(f"words {words}: {mismatch}") from None
+    expect_refusals(2, "bad words at", WRONG_WORDS)
 
 
 @test
