@@ -1,12 +1,15 @@
 //! The name of a session.
-ghost use Rattle.std.specs.Prelude.{◌≡◌, IfOk};
+ghost use Rattle.std.specs.Prelude.{◌≡◌, Some, IfOk};
 ghost use Rattle.std.proofs.Common.{rules};
 ghost use Rattle.std.specs.List.{list_all};
 ghost use Rattle.std.specs.Result.{result_err};
 ghost use Rattle.std.specs.Str.{bytes_eq};
+ghost use Rattle.std.specs.Ordering.{nat_cmp};
+ghost use Rattle.std.specs.Cmp.Lexicographic.{slice_cmp, nat_list_cmp_total, texts_ties, texts_po};
 ghost use Rattle.sd_base.specs.Names.{IsName, bad_name, name_byte};
 
 use crate::limits::MAX_NAME;
+use std::cmp::Ordering;
 use std::marker::Model;
 
 /// Why bytes are no name of a session. They are tried in this order. Defined by this project.
@@ -54,6 +57,31 @@ impl PartialEq for Name {
 
 impl Eq for Name {
     ghost laws = { Prim.search rules };
+}
+
+// By their bytes, from the first on.
+impl Ord for Name {
+    ghost cmp = { slice_cmp nat_cmp };
+
+    ghost total = { nat_list_cmp_total };
+
+    ghost matches_partial_cmp = { Prim.search rules };
+
+    ghost matches_eq = { texts_ties };
+
+    fn cmp(&self, other: &Name) -> Ordering {
+        self.as_bytes().cmp(other.as_bytes())
+    }
+}
+
+impl PartialOrd for Name {
+    ghost partial_cmp = { λ x y. Some (slice_cmp nat_cmp x y) };
+
+    ghost laws = { texts_po };
+
+    fn partial_cmp(&self, other: &Name) -> Option<Ordering> {
+        Some(self.cmp(other))
+    }
 }
 
 impl Name {
@@ -115,6 +143,7 @@ fn padded(bytes: &[u8]) -> Name
 mod tests {
     use super::BadName::{Length, Letter};
     use super::*;
+    use std::test::Fail;
 
     #[test]
     fn names_and_what_is_no_name(rt: HostRuntime) {
@@ -146,5 +175,19 @@ mod tests {
                 Err(bad) => assert_eq!(rt; Some(bad), want),
             }
         }
+    }
+
+    #[test]
+    fn names_are_in_the_order_of_their_bytes(rt: HostRuntime) -> Result<(), Fail> {
+        let rising: [&[u8]; 6] = [b"0", b"A", b"Z", b"a", b"a.b", b"ab"];
+        for (place, bytes) in rising.iter().enumerate() {
+            let name = Name::read(bytes).ok().ok_or("a name")?;
+            for (other_place, bytes) in rising.iter().enumerate() {
+                let other = Name::read(bytes).ok().ok_or("a name")?;
+                assert_eq!(rt; name.cmp(&other), place.cmp(&other_place));
+                assert_eq!(rt; name == other, place == other_place);
+            }
+        }
+        Ok(())
     }
 }
