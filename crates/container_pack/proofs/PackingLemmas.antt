@@ -2,7 +2,7 @@
 use Rattle.std.proofs.Common.{◌≡◌, inl, inr, ℕ, zero, suc, ◌+◌, ◌<◌, ◌≤◌, List, [], ◌∷◌, ◌++◌, length, map, get_or, refl, sym, ap, ◌∙◌, subst, append_assoc, arith, length-append}
 use Rattle.std.proofs.lemmas.List.{append-nil}
 use Rattle.std.proofs.lemmas.Bool.Decides.{leb_tells, nat_tests}
-use Rattle.sd_base.specs.Packing.{header_of, packed_on, packing, BeginWith}
+use Rattle.sd_base.specs.Packing.{header_of, packed_on, packing, ArePrefixes}
 use Rattle.sd_base.specs.declared.limits.TheConstants.{MAX_CONTAINER, CONTAINER_HEADER}
 use Rattle.container_pack.specs.declared.fill.Fill.{Fill}
 use Rattle.container_pack.specs.Spots.{filled_by, filled_on}
@@ -105,16 +105,16 @@ extends number open_one (chunk ∷ chunks) = elim (leb_tells (length open_one + 
 ]
 
 -- the same list, but that its last one may be longer and that others may stand behind it
-pub BeginWith-same_front : (full : Chunks) (last rest : List ℕ) (others : Chunks) → BeginWith (full ++ last ∷ []) (full ++ (last ++ rest) ∷ others)
-BeginWith-same_front [] last rest others = record {
+pub ArePrefixes-same_front : (full : Chunks) (last rest : List ℕ) (others : Chunks) → ArePrefixes (full ++ last ∷ []) (full ++ (last ++ rest) ∷ others)
+ArePrefixes-same_front [] last rest others = record {
   no_fewer = omega arith;
   prefix = λ k. elim k as (λ n. n < 1 → (tail : List ℕ) × (get_or ((last ++ rest) ∷ others) n [] ≡ get_or (last ∷ []) n [] ++ tail)) [
     | zero ↦ λ inside. (rest, refl)
     | suc n ↦ λ inside. absurd (omega arith)
   ];
 }
-BeginWith-same_front (first ∷ full) last rest others =
-    let there = BeginWith-same_front full last rest others in
+ArePrefixes-same_front (first ∷ full) last rest others =
+    let there = ArePrefixes-same_front full last rest others in
     record {
       no_fewer = omega (arith, there.no_fewer);
       prefix = λ k. elim k as (λ n. n < length (first ∷ full ++ last ∷ []) → (tail : List ℕ) × (get_or (first ∷ full ++ (last ++ rest) ∷ others) n [] ≡ get_or (first ∷ full ++ last ∷ []) n [] ++ tail)) [
@@ -123,15 +123,15 @@ BeginWith-same_front (first ∷ full) last rest others =
       ];
     }
 
-pub BeginWith-nothing : (containers : Chunks) → BeginWith [] containers
-BeginWith-nothing containers = record { no_fewer = omega arith; prefix = λ k inside. absurd (omega arith) }
+pub ArePrefixes-nothing : (containers : Chunks) → ArePrefixes [] containers
+ArePrefixes-nothing containers = record { no_fewer = omega arith; prefix = λ k inside. absurd (omega arith) }
 
 -- the containers of a longer list only extend those of a shorter one
-pub packing-grows : (chunks more : Chunks) → BeginWith (packing chunks) (packing (chunks ++ more))
-packing-grows [] more = BeginWith-nothing (packing more)
+pub packing-grows : (chunks more : Chunks) → ArePrefixes (packing chunks) (packing (chunks ++ more))
+packing-grows [] more = ArePrefixes-nothing (packing more)
 packing-grows (chunk ∷ chunks) more =
     let r = reach 0 (header_of 0 ++ chunk) chunks in
     let e = extends (0 + length r.full) r.last more in
     let later : packing (chunk ∷ (chunks ++ more)) ≡ r.full ++ (r.last ++ e.rest) ∷ e.others = r.goes_on more ∙ ap (λ (l : Chunks). r.full ++ l) e.split in
-    subst (λ (l : Chunks). BeginWith l (packing (chunk ∷ (chunks ++ more)))) (sym r.containers)
-    (subst (λ (l : Chunks). BeginWith (r.full ++ r.last ∷ []) l) (sym later) (BeginWith-same_front r.full r.last e.rest e.others))
+    subst (λ (l : Chunks). ArePrefixes l (packing (chunk ∷ (chunks ++ more)))) (sym r.containers)
+    (subst (λ (l : Chunks). ArePrefixes (r.full ++ r.last ∷ []) l) (sym later) (ArePrefixes-same_front r.full r.last e.rest e.others))

@@ -1,12 +1,12 @@
 -- Laws of the packing of chunks, in the words of the subject.
 use Rattle.std.specs.Prelude.{◌≡◌, ℕ, ◌≤◌, List, ◌++◌, length, All}
 use Rattle.std.specs.List.{flat_map}
-use Rattle.sd_base.specs.Packing.{packing, ArePacked, BeginWith}
+use Rattle.sd_base.specs.Packing.{packing, ArePacked, ArePrefixes}
 use Rattle.sd_base.specs.declared.limits.TheConstants.{LARGEST_MAX}
 
 -- a longer list of chunks has the containers of a shorter one, longer ones in their place, and more
 abbrev pub LongerListsOnlyExtend : Type 0
-LongerListsOnlyExtend = (chunks more : List (List ℕ)) → BeginWith (packing chunks) (packing (chunks ++ more))
+LongerListsOnlyExtend = (chunks more : List (List ℕ)) → ArePrefixes (packing chunks) (packing (chunks ++ more))
 
 -- the containers of chunks that are not too long are those of some groups of the chunks in order
 abbrev pub PackingIsByGroups : Type 0

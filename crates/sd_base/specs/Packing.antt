@@ -32,6 +32,6 @@ pub record ArePacked (groups : List (List (List ℕ))) (containers : List (List 
   pub full : (k : ℕ) → k + 1 < length groups → MAX_CONTAINER < length (slice_index_or containers k []) + length (slice_index_or (slice_index_or groups (k + 1) []) 0 [])
 
 -- each container of the first list is a prefix of the container of the same number in the second
-pub record BeginWith (before after : List (List ℕ)) : Type 0 where
+pub record ArePrefixes (before after : List (List ℕ)) : Type 0 where
   pub no_fewer : length before ≤ length after
   pub prefix : (k : ℕ) → k < length before → (rest : List ℕ) × (slice_index_or after k [] ≡ slice_index_or before k [] ++ rest)
