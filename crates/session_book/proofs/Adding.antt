@@ -1,11 +1,14 @@
 -- A book with one more record: what its chunks, its places and its live sessions become.
-use Rattle.std.proofs.Common.{◌≡◌, ℕ, zero, suc, ◌+◌, ◌<◌, Bool, true, false, cond, List, [], ◌∷◌, ◌++◌, length, IsTrue, refl, sym, ap, ◌∙◌, arith}
+use Rattle.std.proofs.Common.{◌≡◌, ℕ, zero, suc, ◌+◌, ◌<◌, Bool, true, false, cond, List, [], ◌∷◌, ◌++◌, length, IsTrue, refl, sym, ap, ◌∙◌, arith, length-append}
 use Rattle.std.specs.List.{count_by}
 use Rattle.std.proofs.Math.ListN.{set}
 use Rattle.std.specs.Prelude.{slice_index_or}
-use Rattle.std.proofs.lemmas.List.Sums.{sum_by-cons}
+use Rattle.std.proofs.lemmas.Grind.{flat_map-append}
+use Rattle.std.proofs.lemmas.List.{append-nil}
+use Rattle.std.proofs.lemmas.List.Sums.{sum_by-cons, sum_by-append}
 use Rattle.std.proofs.lemmas.List.Concat.{flat_map-cons}
 use Rattle.sd_base.specs.Books.{without, chunks_in, places_in, is_live}
+use Rattle.sd_base.specs.declared.record.NewChunk.{NewChunk}
 use Rattle.sd_base.specs.declared.record.Session.{Session}
 
 -- how many sessions are live
@@ -50,3 +53,18 @@ drop_leaves (session ∷ sessions) (suc k) live =
       count = omega (arith, rest.count);
       live = omega (arith, rest.live, sum_by-cons (λ (session : Session). cond session.live 1 0) session (without k sessions), sum_by-cons (λ (session : Session). cond session.live 1 0) session sessions);
     }
+
+-- what one more session adds
+pub record IsAdded (sessions : List Session) (session : Session) : Type 0 where
+  pub chunks : chunks_in (sessions ++ session ∷ []) ≡ chunks_in sessions ++ session.entry.fresh
+  pub places : places_in (sessions ++ session ∷ []) ≡ places_in sessions + length session.entry.recipe
+  pub count : length (sessions ++ session ∷ []) ≡ length sessions + 1
+  pub live : live_count (sessions ++ session ∷ []) ≡ live_count sessions + cond session.live 1 0
+
+pub push_adds : (sessions : List Session) (session : Session) → IsAdded sessions session
+push_adds sessions session = record {
+  chunks = flat_map-append (λ (session : Session). session.entry.fresh) sessions (session ∷ []) ∙ ap (λ (t : List NewChunk). chunks_in sessions ++ t) (append-nil session.entry.fresh);
+  places = omega (arith, sum_by-append (λ (session : Session). length session.entry.recipe) sessions (session ∷ []));
+  count = length-append sessions (session ∷ []);
+  live = omega (arith, sum_by-append (λ (session : Session). cond session.live 1 0) sessions (session ∷ []));
+}

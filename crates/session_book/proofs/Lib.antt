@@ -4,6 +4,7 @@ pub mod Fields
 pub mod Bodies
 pub mod Steps
 pub mod Adding
+pub mod ByName
 pub mod Replaying
 pub mod Flaws
 pub mod OneReading

@@ -5,6 +5,7 @@ ghost use Rattle.sd_base.specs.Records.{IsInLimits, HasSpelling};
 ghost use Rattle.session_book.specs.BookFields.{HasRoom};
 ghost use Rattle.sd_base.specs.Books.{BookState, chunks_in, places_in, is_live, live_session, without, MayIngest, MayFollow, recipe_damage, with_record};
 
+use crate::lengths::DROP_LEN;
 use crate::recipes::first_flaw;
 use crate::writing::ingest_len;
 use sd_base::{
@@ -12,6 +13,7 @@ use sd_base::{
     Record, Session,
 };
 use std::alloc::Global;
+use std::collections::BTreeMap;
 use std::marker::Model;
 
 /// The sessions of a store and its chunks, as its records say: contracts see the sessions, the length of the records
@@ -19,6 +21,8 @@ use std::marker::Model;
 #[derive(Debug, Drop)]
 pub struct Book {
     sessions: Vec<Session>,
+    // The live sessions by their names.
+    by_name: BTreeMap<Name, u32>,
     chunks: Vec<NewChunk>,
     places: u32,
     used: u64,
@@ -44,6 +48,7 @@ impl Book {
     {
         Book {
             sessions: Vec::new(alloc),
+            by_name: BTreeMap::new(alloc),
             chunks: Vec::new(alloc),
             places: 0,
             used: 0,
@@ -77,12 +82,14 @@ impl Book {
     {
         let size = ingest_len(&entry);
         let places = entry.recipe.as_slice().len() as u32;
-        let before = self.chunks.len();
+        let session = self.sessions.len() as u32;
+
+        // With room for the chunks and the session, only the name can still be refused.
+        self.chunks.reserve(entry.fresh.as_slice().len())?;
+        self.sessions.reserve(1)?;
+        self.by_name.insert(entry.name, session)?;
         self.chunks.extend_from_slice(entry.fresh.as_slice())?;
-        if self.sessions.push(Session { entry, live: true }).is_err() {
-            self.chunks.truncate(before);
-            return Err(OutOfMemory);
-        }
+        self.sessions.push(Session { entry, live: true })?;
         self.places += places;
         self.used += size as u64;
         Ok(())
@@ -93,8 +100,10 @@ impl Book {
         requires { IsTrue (is_live self.old.sessions session) }
         ensures { self.new ≡ with_record self.old (Record.Drop session) }
     {
+        let name = self.sessions[session as usize].entry.name;
+        self.by_name.remove(&name);
         mark_dropped(&mut self.sessions, session);
-        self.used += 41;
+        self.used += DROP_LEN as u64;
     }
 
     // Whether a record may follow those of the book.
@@ -153,13 +162,11 @@ impl Book {
     }
 
     /// The live session of a name. There is none exactly where no live session has the name.
+    #[tactic(auto, using(crate::proofs::ByName::find_by_name))]
     pub fn find(&self, name: &Name) -> Option<u32>
         ensures { result ≡ live_session self.now.sessions name.now }
     {
-        match live_place(self.sessions.as_slice(), name) {
-            Some(place) => Some(place as u32),
-            None => None,
-        }
+        self.by_name.get(name).copied()
     }
 
     /// The chunks, in order of first occurrence.
@@ -189,14 +196,6 @@ impl Book {
     {
         self.used
     }
-}
-
-// The place of the live session of a name.
-fn live_place(sessions: &[Session], name: &Name) -> Option<usize>
-    ensures { result ≡ live_session sessions.now name.now }
-{
-    let bytes = name.as_bytes();
-    sessions.iter().position(|session| session.live && session.entry.name.as_bytes() == bytes)
 }
 
 // Marks a live session as dropped.

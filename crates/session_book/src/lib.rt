@@ -4,6 +4,7 @@
 
 mod book;
 mod laws;
+mod lengths;
 mod reading;
 mod recipes;
 mod replay;

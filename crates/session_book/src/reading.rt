@@ -1,8 +1,9 @@
 //! Fields of a record, read from the front of bytes.
-ghost use Rattle.std.specs.Prelude.{◌≡◌, List, option_map};
+ghost use Rattle.std.specs.Prelude.{◌≡◌, ℕ, List, Option, option_map};
 ghost use Rattle.session_book.specs.Reading.{Gives, number_at, bytes_at, name_at, chunk_at, list_at, chunks_at, entries_at, ingest_at, ingest_behind, record_of};
 ghost use Rattle.session_book.specs.declared.reading.Stop.TheVariants.{Memory};
 
+use crate::lengths::{NEW_CHUNK_LEN, NUMBER_LEN};
 use sd_base::{
     IngestRecord, LARGEST_MAX, MAX_CHUNKS, MAX_PLACES, Name, NewChunk, NewChunks, Recipe, Record,
 };
@@ -118,28 +119,44 @@ fn chunk(bytes: &[u8]) -> Result<(NewChunk, &[u8]), Stop>
     Ok((NewChunk { length, name }, rest))
 }
 
-// So many new chunks.
-fn chunk_list(alloc: Global, count: u32, bytes: &[u8]) -> Result<(Vec<NewChunk>, &[u8]), Stop>
-    ensures { Gives (λ x. (x.0.items, x.1.now)) result (list_at chunk_at count bytes.now) }
-{
-    let mut list = Vec::new(alloc);
-    let mut rest = bytes;
-    'items: for _ in 0..count {
-        let (item, after) = chunk(rest)?;
-        list.push(item)?;
-        rest = after;
-    }
-    Ok((list, rest))
+// An item of a list.
+trait Item: Drop + Sized {
+    // What reading one from the front of bytes gives.
+    ghost at: { List ℕ → Option (Self × List ℕ) };
+
+    fn read(bytes: &[u8]) -> Result<(Self, &[u8]), Stop>
+        ensures { Gives (λ x. (x.0, x.1.now)) result (at bytes.now) };
 }
 
-// So many entries of a recipe.
-fn entry_list(alloc: Global, count: u32, bytes: &[u8]) -> Result<(Vec<u32>, &[u8]), Stop>
-    ensures { Gives (λ x. (x.0.items, x.1.now)) result (list_at number_at count bytes.now) }
+impl Item for u32 {
+    ghost at = { number_at };
+
+    fn read(bytes: &[u8]) -> Result<(u32, &[u8]), Stop> {
+        number(bytes)
+    }
+}
+
+impl Item for NewChunk {
+    ghost at = { chunk_at };
+
+    fn read(bytes: &[u8]) -> Result<(NewChunk, &[u8]), Stop> {
+        chunk(bytes)
+    }
+}
+
+// So many items, in a list with room for those that the bytes can hold.
+fn list<T: Item>(
+    alloc: Global,
+    count: u32,
+    room: usize,
+    bytes: &[u8],
+) -> Result<(Vec<T>, &[u8]), Stop>
+    ensures { Gives (λ x. (x.0.items, x.1.now)) result (list_at T.at count bytes.now) }
 {
-    let mut list = Vec::new(alloc);
+    let mut list = Vec::with_capacity(alloc, room.min(count as usize))?;
     let mut rest = bytes;
     'items: for _ in 0..count {
-        let (item, after) = number(rest)?;
+        let (item, after) = T::read(rest)?;
         list.push(item)?;
         rest = after;
     }
@@ -155,7 +172,7 @@ fn chunks(alloc: Global, bytes: &[u8]) -> Result<(Vec<NewChunk>, &[u8]), Stop>
     if count > MAX_CHUNKS {
         return Err(Stop::Unspelled);
     }
-    chunk_list(alloc, count, rest)
+    list(alloc, count, rest.len() / NEW_CHUNK_LEN, rest)
 }
 
 // The entries of a recipe, behind their number.
@@ -167,7 +184,7 @@ fn entries(alloc: Global, bytes: &[u8]) -> Result<(Vec<u32>, &[u8]), Stop>
     if count > MAX_PLACES {
         return Err(Stop::Unspelled);
     }
-    entry_list(alloc, count, rest)
+    list(alloc, count, rest.len() / NUMBER_LEN, rest)
 }
 
 // An ingest.

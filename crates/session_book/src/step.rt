@@ -5,6 +5,7 @@ ghost use Rattle.sha2.specs.Sha256.{sha256};
 ghost use Rattle.sd_base.specs.Records.{digested, spelling_of, IsRecord, IsShort, BeginsWith, BeginsWithNone};
 ghost use Rattle.session_book.specs.Reading.{parts_at, step_of_body, step_of};
 
+use crate::lengths::AROUND_BODY;
 use crate::reading::{Stop, record_in, split_front, split_number};
 use sd_base::{OutOfMemory, Record};
 use sha2::{Digest, Sha256};
@@ -72,7 +73,7 @@ fn body_step(alloc: Global, kind: u8, body: &[u8], digest: &[u8]) -> Result<Step
         return Ok(Step::Bad);
     }
     match record_in(alloc, kind, body) {
-        Ok(entry) => Ok(Step::Whole(entry, 37 + body.len() as u32)),
+        Ok(entry) => Ok(Step::Whole(entry, AROUND_BODY + body.len() as u32)),
         Err(Stop::Unspelled) => Ok(Step::Bad),
         Err(Stop::Memory) => Err(OutOfMemory),
     }

@@ -3,6 +3,7 @@ ghost use Rattle.std.specs.Prelude.{◌≡◌, ◌++◌, ◌+◌, ◌*◌, ◌<�
 ghost use Rattle.std.specs.List.{All, flat_map};
 ghost use Rattle.sd_base.specs.Records.{number, new_chunk, ingest_body, digested, kind_of, body_of, spelling_of, HasSpelling, IsInLimits, IsIngest, IsRecord};
 
+use crate::lengths::{AROUND_BODY, DROP_LEN, INGEST_NUMBERS, NEW_CHUNK_LEN, NUMBER_LEN};
 use sd_base::{IngestRecord, MAX_CHUNKS, NewChunk, OutOfMemory, Record};
 use sha2::{Digest, Sha256};
 use std::alloc::{AllocError, Global};
@@ -51,6 +52,7 @@ fn put_ingest(out: &mut Vec<u8>, entry: &IngestRecord) -> Result<(), AllocError>
     ensures lawful { IsIngest entry.now }
 {
     let size = body_len(entry);
+    out.reserve(AROUND_BODY as usize + size as usize)?;
     out.push(b'I')?;
     out.extend_from_slice(&size.to_be_bytes())?;
     put_body(out, entry)
@@ -60,9 +62,9 @@ fn put_ingest(out: &mut Vec<u8>, entry: &IngestRecord) -> Result<(), AllocError>
 pub fn ingest_len(entry: &IngestRecord) -> u32
     requires { IsInLimits entry.now }
     ensures spelled { result ≡ length (spelling_of (Record.Ingest entry.now)) }
-    ensures small { result + 41 ≤ 2 ^ 30 }
+    ensures small { result + DROP_LEN ≤ 2 ^ 30 }
 {
-    37 + body_len(entry)
+    AROUND_BODY + body_len(entry)
 }
 
 // The number of bytes of an ingest's body.
@@ -76,19 +78,19 @@ fn body_len(entry: &IngestRecord) -> u32
     let chunks = chunks_len(entry.fresh.as_slice());
     let entries = entry.recipe.as_slice();
     numbers_fit(entry.length, entries);
-    (13 + name.len() + chunks + 4 * entries.len()) as u32
+    (INGEST_NUMBERS + name.len() + chunks + NUMBER_LEN * entries.len()) as u32
 }
 
 // The number of bytes of new chunks.
 fn chunks_len(chunks: &[NewChunk]) -> usize
     requires { length chunks.now ≤ MAX_CHUNKS }
     ensures spelled { result ≡ length (flat_map new_chunk chunks.now) }
-    ensures each { result ≡ 36 * length chunks.now }
+    ensures each { result ≡ NEW_CHUNK_LEN * length chunks.now }
     ensures names { All (λ chunk. length chunk.name ≡ 32) chunks.now }
 {
     let mut size = 0;
     for chunk in chunks {
-        size += 4 + name_len(&chunk.name);
+        size += NUMBER_LEN + name_len(&chunk.name);
     }
     size
 }

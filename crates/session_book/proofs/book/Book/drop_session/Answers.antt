@@ -1,8 +1,10 @@
-use Rattle.std.proofs.Common.{◌≡◌, ℕ, List, arith, ap, sym, ◌∙◌, ◌+◌, length}
+use Rattle.std.proofs.Common.{◌≡◌, ℕ, List, arith, ap, subst, sym, Some, ◌∙◌, ◌+◌, length}
 use Rattle.sd_base.specs.Books.{without, chunks_in, places_in, BookState}
 use Rattle.sd_base.specs.declared.record.Record.TheVariants.{Drop}
 use Rattle.sd_base.specs.declared.record.Session.{Session}
 use Rattle.session_book.proofs.Adding.{drop_leaves, live_count}
+use Rattle.session_book.specs.BookFields.{live_name, IsByName}
+use Rattle.session_book.proofs.ByName.{live_named, index_dropped}
 use Rattle.session_book.proofs.Steps.{length_spelling}
 use Rattle.session_book.proofs.book.Book.drop_session.Goals as goal
 
@@ -11,10 +13,12 @@ invariant_of-self c =
     let old = c.self.inside.sessions.items in
     let marked : c.mark_dropped.new.sessions.items ≡ without c.args.session old = c.mark_dropped.ensures in
     let live = rw (← c.self.view_is) at c.requires in
+    let named : live_name old c.args.session ≡ Some c.index.result.now.entry.name = live_named old c.args.session c.index.result.now live ∙ ap (λ (session : Session). Some session.entry.name) (sym c.index.ensures) in
     let left = drop_leaves old c.args.session live in
     let count : length c.mark_dropped.new.sessions.items ≡ length old = ap length marked ∙ left.count in
     let alive : live_count c.mark_dropped.new.sessions.items + 1 ≡ live_count old = ap (λ (xs : List Session). live_count xs + 1) marked ∙ left.live in
     record {
+      by_name = subst (IsByName c.remove.new.self) (sym marked) (index_dropped c.self.inside.by_name c.remove.new.self old c.args.session c.index.result.now.entry.name c.self.invariant.by_name named c.remove.ensures.updates);
       chunks = c.self.invariant.chunks ∙ sym (ap chunks_in marked ∙ left.chunks);
       places = c.self.invariant.places ∙ sym (ap places_in marked ∙ left.places);
       few_sessions = omega (arith, count, c.self.invariant.few_sessions);
