@@ -23,11 +23,11 @@ failing_calls shelf = shelf.plan.failing.items
 
 -- how many calls there have been, or the last number of 64 bits
 abbrev pub shelf_calls : MemShelf → ℕ
-shelf_calls shelf = shelf.plan.calls
+shelf_calls shelf = shelf.plan.tally.calls
 
 -- how many of them have failed
 abbrev pub shelf_faults : MemShelf → ℕ
-shelf_faults shelf = shelf.plan.faults
+shelf_faults shelf = shelf.plan.tally.faults
 
 -- what the next call keeps, where it is to fail
 abbrev pub kept_next : MemShelf → Option ℕ

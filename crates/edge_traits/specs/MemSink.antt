@@ -12,8 +12,8 @@ failing_writes sink = sink.plan.failing.items
 
 -- how many writes there have been, or the last number of 64 bits
 abbrev pub write_calls : MemSink → ℕ
-write_calls sink = sink.plan.calls
+write_calls sink = sink.plan.tally.calls
 
 -- how many of them have failed
 abbrev pub write_faults : MemSink → ℕ
-write_faults sink = sink.plan.faults
+write_faults sink = sink.plan.tally.faults

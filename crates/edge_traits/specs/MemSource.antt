@@ -16,8 +16,8 @@ failing_reads source = source.plan.failing.items
 
 -- how many reads there have been, or the last number of 64 bits
 abbrev pub read_calls : MemSource → ℕ
-read_calls source = source.plan.calls
+read_calls source = source.plan.tally.calls
 
 -- how many of them have failed
 abbrev pub read_faults : MemSource → ℕ
-read_faults source = source.plan.faults
+read_faults source = source.plan.tally.faults

@@ -21,6 +21,7 @@ mod sink;
 mod source;
 mod std_sink;
 mod std_source;
+mod tally;
 mod writing;
 
 pub use fault::EdgeFault;

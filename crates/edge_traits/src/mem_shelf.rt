@@ -121,7 +121,8 @@ impl Shelf for MemShelf {
     fn cut(&mut self, file: File, length: u64) -> Result<(), EdgeFault>
         ensures cut { OnOk result (files_of_shelf self.new file ≡ take length (files_of_shelf self.old file)) }
         ensures kept { IsErrOf result EdgeFault.Failed → IfSome (kept_next self.old) (λ kept.
-            files_of_shelf self.new file ≡ (if kept == 0 then files_of_shelf self.old file else take length (files_of_shelf self.old file))) }
+            files_of_shelf self.new file
+            ≡ (if kept == 0 then files_of_shelf self.old file else take length (files_of_shelf self.old file))) }
         ensures loose { result ≢ Err EdgeFault.OutOfMemory → loose_of_shelf self.new file ≡ true }
 
         ensures other_files { (f : File) → f ≢ file → files_of_shelf self.new f ≡ files_of_shelf self.old f }

@@ -1,9 +1,10 @@
 //! Which calls of a shelf in memory fail, and what they leave.
-ghost use Rattle.std.specs.Prelude.{◌≡◌, ◌≤◌, ◌<◌, ◌^◌, ◌+◌, OnOk, OnErr, IsSome, IsNone, IsOk, IsErr, IsErrOf, ◌↔◌};
+ghost use Rattle.std.specs.Prelude.{◌≡◌, ◌<◌, ◌^◌, OnOk, OnErr, IsSome, IsNone, IsOk, IsErr, IsErrOf, ◌↔◌};
 ghost use Rattle.edge_traits.specs.Faults.{counted_once_more, CountsFailed};
 ghost use Rattle.edge_traits.specs.ShelfPlan.{fail_at};
 
 use crate::EdgeFault;
+use crate::tally::Tally;
 use sd_base::OutOfMemory;
 
 /// A call of a `MemShelf` that fails: its number, counted from 0, and what it leaves. An append keeps so many bytes of the
@@ -14,38 +15,34 @@ pub struct ShelfFail {
     pub kept: u32,
 }
 
-/// The calls of a shelf in memory, numbered from 0, and those among them that fail. Calls whose numbers pass `u32` never
-/// fail, so the count of faults stays far below the last number of 64 bits.
+/// The calls of a shelf in memory that fail, and the count of its calls.
 #[derive(Drop)]
 pub(crate) struct ShelfPlan {
     failing: Vec<ShelfFail>,
-    calls: u64,
-    faults: u64,
-    ghost among_calls: { faults ≤ calls },
-    ghost few: { faults ≤ 2 ^ 32 },
+    tally: Tally,
 }
 
 impl ShelfPlan {
-    /// No call has been made.
+    /// No call has been made, and these calls will fail.
     pub(crate) fn new(failing: Vec<ShelfFail>) -> Self
         ensures failing { result.failing.items ≡ failing.items }
-        ensures calls { result.calls ≡ 0 }
-        ensures faults { result.faults ≡ 0 }
+        ensures calls { result.tally.calls ≡ 0 }
+        ensures faults { result.tally.faults ≡ 0 }
     {
         ShelfPlan {
             failing,
-            calls: 0,
-            faults: 0,
+            tally: Tally::new(),
         }
     }
 
     /// What the call that is made now keeps, where it is to fail.
     pub(crate) fn kept(&self) -> Option<u32>
-        ensures kept { result ≡ fail_at self.now.failing.items self.now.calls }
-        ensures small { IsSome result → self.now.calls < 2 ^ 32 }
+        ensures kept { result ≡ fail_at self.now.failing.items self.now.tally.calls }
+        ensures small { IsSome result → self.now.tally.calls < 2 ^ 32 }
     {
+        let number = self.tally.next();
         for fail in &self.failing {
-            if u64::from(fail.call) == self.calls {
+            if u64::from(fail.call) == number {
                 return Some(fail.kept);
             }
         }
@@ -54,11 +51,11 @@ impl ShelfPlan {
 
     /// Counts a call that takes no memory, and gives its answer.
     pub(crate) fn next(&mut self) -> Result<(), EdgeFault>
-        ensures fails { IsErr result ↔ IsSome (fail_at self.old.failing.items self.old.calls) }
-        ensures ok { OnOk result (IsNone (fail_at self.old.failing.items self.old.calls)) }
+        ensures fails { IsErr result ↔ IsSome (fail_at self.old.failing.items self.old.tally.calls) }
+        ensures ok { OnOk result (IsNone (fail_at self.old.failing.items self.old.tally.calls)) }
         ensures only_fails { OnErr result (IsErrOf result EdgeFault.Failed) }
-        ensures faults { CountsFailed result self.old.faults self.new.faults }
-        ensures calls { self.new.calls ≡ counted_once_more self.old.calls }
+        ensures faults { CountsFailed result self.old.tally.faults self.new.tally.faults }
+        ensures calls { self.new.tally.calls ≡ counted_once_more self.old.tally.calls }
         ensures failing { self.new.failing.items ≡ self.old.failing.items }
     {
         let kept = self.kept();
@@ -71,23 +68,22 @@ impl ShelfPlan {
         kept: Option<u32>,
         done: Result<(), OutOfMemory>,
     ) -> Result<(), EdgeFault>
-        requires { IsSome kept → self.old.calls < 2 ^ 32 }
+        requires { IsSome kept → self.old.tally.calls < 2 ^ 32 }
 
         ensures out_of_memory { OnErr done (result ≡ Err EdgeFault.OutOfMemory) }
         ensures failed { OnOk done (IsSome kept → result ≡ Err EdgeFault.Failed) }
         ensures ok { OnOk done (IsNone kept → IsOk result) }
         ensures planned { OnOk result (IsNone kept) }
         ensures fails { IsErrOf result EdgeFault.Failed → IsSome kept }
-        ensures faults { CountsFailed result self.old.faults self.new.faults }
-        ensures calls { self.new.calls ≡ counted_once_more self.old.calls }
+        ensures faults { CountsFailed result self.old.tally.faults self.new.tally.faults }
+        ensures calls { self.new.tally.calls ≡ counted_once_more self.old.tally.calls }
         ensures failing { self.new.failing.items ≡ self.old.failing.items }
     {
-        self.calls = self.calls.saturating_add(1);
+        self.tally.count(done.is_ok() && kept.is_some());
         done?;
-        if kept.is_some() {
-            self.faults += 1;
-            return Err(EdgeFault::Failed);
+        match kept {
+            Some(_) => Err(EdgeFault::Failed),
+            None => Ok(()),
         }
-        Ok(())
     }
 }
