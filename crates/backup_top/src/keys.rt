@@ -122,7 +122,9 @@ fn is_set(before: &[String], name: &str) -> bool
 
 // The two sides of the first `=` of a word.
 fn split(word: &str) -> Option<(&str, &str)>
-    ensures { MatchOption result (list_any is_equals_sign word.now ≡ false) (λ sides. (list_any is_equals_sign word.now ≡ true) × (sides.0.now ≡ key_of word.now) × (sides.1.now ≡ value_of_word word.now)) }
+    ensures { MatchOption result (list_any is_equals_sign word.now ≡ false) (λ sides.
+        (list_any is_equals_sign word.now ≡ true)
+        × (sides.0.now ≡ key_of word.now) × (sides.1.now ≡ value_of_word word.now)) }
 {
     word.split_once('=')
 }

@@ -87,7 +87,8 @@ impl Packer {
             → OnErr result (ContainersBegin (F.files shelf.new) (generation_of self.old) (packing chunks)) }
         ensures other_files { ChangesOnly (next_file self.old (length chunk.now)) (F.files shelf.old) (F.files shelf.new) }
 
-        ensures unflushed { (k : ℕ) → IfOk result (λ spot. IsUnflushed self.new k ↔ (IsUnflushed self.old k ⊎ (k ≡ spot.container))) }
+        ensures unflushed { (k : ℕ) → IfOk result (λ spot.
+            IsUnflushed self.new k ↔ (IsUnflushed self.old k ⊎ (k ≡ spot.container))) }
         ensures may_loosen { MayLoosen (next_file self.old (length chunk.now)) (F.loose shelf.old) (F.loose shelf.new) }
 
         ensures failed { IsErrOf result EdgeFault.Failed → Rose (F.faults shelf.old) (F.faults shelf.new) }
@@ -136,7 +137,8 @@ impl Packer {
     fn make_ready<F: Shelf>(&self, shelf: &mut F, spot: Spot) -> Result<(), EdgeFault>
         ensures ready { (had : List ℕ) → StandBefore self.now (F.files shelf.old) spot had
             → OnOk result (HasOnly (content (F.files shelf.new) (Container (generation_of self.now) spot.container)) had) }
-        ensures kept { (had : List ℕ) → StandBefore self.now (F.files shelf.old) spot had → spot.container ≢ self.now.fill.containers
+        ensures kept { (had : List ℕ) → StandBefore self.now (F.files shelf.old) spot had
+            → spot.container ≢ self.now.fill.containers
             → Begins (content (F.files shelf.new) (Container (generation_of self.now) spot.container)) had }
 
         ensures other_files { ChangesOnly (Container (generation_of self.now) spot.container) (F.files shelf.old) (F.files shelf.new) }

@@ -71,8 +71,10 @@ impl Window {
 
     /// Whether the low bits of the fingerprint are the target.
     pub fn is_match(&self, params: &Params) -> bool
-        ensures low_bits { IsTrue result ↔ (fingerprint self.now.polynomial self.now.bytes % 2 ^ params.now.bits ≡ params.now.target) }
-        ensures same_polynomial { self.now.polynomial ≡ params.now.polynomial → result ≡ is_match (numbers_of params.now) self.now.bytes }
+        ensures low_bits { IsTrue result
+            ↔ (fingerprint self.now.polynomial self.now.bytes % 2 ^ params.now.bits ≡ params.now.target) }
+        ensures same_polynomial { self.now.polynomial ≡ params.now.polynomial
+            → result ≡ is_match (numbers_of params.now) self.now.bytes }
     {
         self.value % (1 << params.bits) == u64::from(params.target)
     }

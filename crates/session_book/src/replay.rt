@@ -23,10 +23,12 @@ impl Book {
     /// maximum. What stands behind them is not looked at.
     pub fn replay(alloc: Global, bytes: &[u8], records: u64, max: u32) -> Result<Book, BookFault>
         // A book is given exactly where so many records stand there and no recipe fails.
-        ensures whole { UnlessNoMemory result ((book : BookState) → (result ≡ Ok book) ↔ IsReplay max bytes.now records book) }
+        ensures whole { UnlessNoMemory result ((book : BookState) →
+            (result ≡ Ok book) ↔ IsReplay max bytes.now records book) }
 
         // A damage is named exactly where it is the first: of the records, and else of the recipes.
-        ensures damaged { UnlessNoMemory result ((damage : Damage) → (result ≡ Err (BookFault.Damaged damage)) ↔ IsBookDamage max bytes.now records damage) }
+        ensures damaged { UnlessNoMemory result ((damage : Damage) →
+            (result ≡ Err (BookFault.Damaged damage)) ↔ IsBookDamage max bytes.now records damage) }
     {
         checked_book(alloc, bytes, records, max)
     }

@@ -26,13 +26,14 @@ pub enum Step {
 /// hold: what they state is looked at once they are there.
 pub fn next_record(alloc: Global, bytes: &[u8]) -> Result<Step, OutOfMemory>
     // A record is found exactly where the first bytes are its spelling.
-    ensures whole { IfOk result (λ step. (entry : Record) (k : ℕ) → (step ≡ Step.Whole entry k) ↔ BeginsWith bytes.now entry k) }
+    ensures whole { IfOk result (λ step. (entry : Record) (k : ℕ) →
+        (step ≡ Step.Whole entry k) ↔ BeginsWith bytes.now entry k) }
     ensures short { IfOk result (λ step. (step ≡ Step.Short) ↔ IsShort bytes.now) }
     ensures bad { IfOk result (λ step. (step ≡ Step.Bad) ↔ BeginsWithNone bytes.now) }
 
     // What was written is read again, whatever follows.
-    ensures again { IfOk result (λ step. (entry : Record) (rest : List ℕ) → IsRecord entry → bytes.now ≡ spelling_of entry ++ rest
-        → step ≡ Step.Whole entry (length (spelling_of entry))) }
+    ensures again { IfOk result (λ step. (entry : Record) (rest : List ℕ) → IsRecord entry
+        → bytes.now ≡ spelling_of entry ++ rest → step ≡ Step.Whole entry (length (spelling_of entry))) }
 {
     front_step(alloc, bytes)
 }
