@@ -1,8 +1,7 @@
 -- A map that was empty and scanned from end to end has the candidates of the text.
-use Rattle.std.proofs.Common.{◌≡◌, ℕ, zero, suc, ◌+◌, ◌<◌, ◌≤◌, Bool, true, false, ◌||◌, ◌&&◌, List, length, replicate, refl, sym, ap, ◌∙◌, arith}
+use Rattle.std.proofs.Common.{◌≡◌, ℕ, zero, suc, ◌≤◌, Bool, false, ◌||◌, List, replicate, refl, ap, ◌∙◌, arith}
 use Rattle.std.proofs.lemmas.Bool.{le-leb, lt-ltb}
 use Rattle.candidate_map.specs.Candidates.{HoldsCandidates}
-use Rattle.candidate_map.specs.Positions.{has}
 use Rattle.candidate_map.proofs.SetLemmas.{has-replicate}
 use Rattle.sd_base.specs.Cutting.{is_candidate}
 use Rattle.sd_base.specs.declared.raw_params.RawParams.{RawParams}

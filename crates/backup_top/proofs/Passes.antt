@@ -1,5 +1,5 @@
 -- The one-pass definition of `plan` where its parameters are known to be valid.
-use Rattle.std.proofs.Common.{◌≡◌, ℕ, List, Option, Some, None, IfSome, sym, subst}
+use Rattle.std.proofs.Common.{◌≡◌, ℕ, List, Option, None, IfSome, subst}
 use Rattle.sd_base.specs.OnePass.{pass_of_plan, pass_of_valid_plan}
 use Rattle.sd_base.specs.Parameters.{bad_parameter}
 use Rattle.sd_base.specs.declared.outcome.Outcome.{Outcome}

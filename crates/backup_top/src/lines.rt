@@ -2,8 +2,8 @@ ghost use Rattle.std.specs.Prelude.{◌≡◌, ◌++◌, IfOk, OnOk, length, str
 ghost use Rattle.sd_base.specs.Cutting.{RiseWithin, parts};
 ghost use Rattle.sd_base.specs.Texts.{plan_line, plan_text};
 
+use chunk_names::{Namer, Sha256Namer, hex_of};
 use sd_base::OutOfMemory;
-use sha2::{Digest, Sha256};
 use std::alloc::Global;
 
 /// The text of `plan`: a line for each chunk of a text, in order. The refusal is want of memory alone.
@@ -30,7 +30,7 @@ fn push_line(
     ensures { OnOk result (string_bytes lines.new ≡ string_bytes lines.old ++ plan_line offset chunk.now) }
 {
     let length = chunk.len();
-    let name = hex::encode(alloc, Sha256::digest(chunk))?;
+    let name = hex_of(alloc, &Sha256Namer.name(chunk))?;
     writeln!(lines, "{offset} {length} {name}")?;
     Ok(())
 }

@@ -1,5 +1,4 @@
-use Rattle.std.proofs.Common.{arith, rules}
-use Rattle.std.proofs.lemmas.Grind.{common_steps}
+use Rattle.std.proofs.Common.{arith}
 use Rattle.backup_top.proofs.top.run_quiet.Goals as goal
 
 pub returns-clause-bad_params : goal.returns-clause-bad_params
