@@ -1,21 +1,13 @@
 -- Bytes with no refusal are a name, and how they are kept.
-use Rattle.std.proofs.Common.{◌≡◌, ℕ, ◌++◌, List, length, take, drop, replicate, Bool, true, false, Some, None, ◌&&◌, arith, refl, ◌∙◌, length-append}
+use Rattle.std.proofs.Common.{◌≡◌, ℕ, ◌++◌, List, length, take, drop, replicate, Bool, true, false, Some, None, arith, refl, ◌∙◌, length-append}
 use Rattle.std.proofs.Math.Seq.{take-append_seam, drop-append_seam}
-use Rattle.std.proofs.lemmas.Bool.{leb-true, le-leb}
+use Rattle.std.proofs.lemmas.Bool.{leb-true, le-leb, and_parts, and_from}
 use Rattle.std.proofs.lemmas.List.{drop-replicate, length-replicate, length-drop}
 use Rattle.std.proofs.lemmas.List.Sums.{AllPass-from_list_all, list_all-from_AllPass}
 use Rattle.std.specs.Prelude.{◌↔◌, not, if◌then◌else◌}
 use Rattle.sd_base.specs.declared.name.BadName.TheVariants.{Length, Letter}
 use Rattle.sd_base.specs.Names.{IsName, bad_name, name_byte}
 use Rattle.sd_base.specs.Padding.{IsPadded}
-
-both_true : (a b : Bool) → (a && b) ≡ true → (a ≡ true) × (b ≡ true)
-both_true true b h = (refl, h)
-both_true false b h = absurd cc
-
-and_both : (a b : Bool) → a ≡ true → b ≡ true → (a && b) ≡ true
-and_both true b _ h = h
-and_both false b h _ = h
 
 -- two tests hold exactly where neither refusal comes
 tests_hold : (fits lettered : Bool) → (if not fits then Some Length else if not lettered then Some Letter else None) ≡ None → (fits ≡ true) × (lettered ≡ true)
@@ -31,11 +23,11 @@ none_refused false lettered h _ = absurd cc
 -- a name has no refusal, and bytes with no refusal are a name
 pub IsName_is_no_refusal : (bytes : List ℕ) → IsName bytes ↔ (bad_name bytes ≡ None)
 IsName_is_no_refusal bytes = (
-  λ holds. none_refused _ _ (and_both _ _ (le-leb _ _ holds.some) (le-leb _ _ holds.few)) (and_both _ _ holds.first (list_all-from_AllPass name_byte bytes holds.letters)),
+  λ holds. none_refused _ _ (and_from _ _ (le-leb _ _ holds.some) (le-leb _ _ holds.few)) (and_from _ _ holds.first (list_all-from_AllPass name_byte bytes holds.letters)),
   λ none.
       let tests = tests_hold _ _ none in
-      let bounds = both_true _ _ tests.0 in
-      let letters = both_true _ _ tests.1 in
+      let bounds = and_parts _ _ tests.0 in
+      let letters = and_parts _ _ tests.1 in
       record {
         some = leb-true _ _ bounds.0;
         few = leb-true _ _ bounds.1;

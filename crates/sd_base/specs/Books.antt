@@ -150,10 +150,15 @@ pub record IsRecipeDamage (max : ℕ) (bytes : List ℕ) (n : ℕ) (damage : Dam
 abbrev pub IsBookDamage : ℕ → List ℕ → ℕ → Damage → Type 0
 IsBookDamage max bytes n damage = IsRecordDamage max bytes n damage ⊎ IsRecipeDamage max bytes n damage
 
--- a record that may follow, and with which no recipe fails, gives the book that a replay gives where it stands behind the
--- others
+-- wherever a replay gives the old book, one with this record more behind the others gives the new one, if no recipe of the
+-- new one fails
+abbrev pub IsReplayedOn : BookState → Record → BookState → Type 0
+IsReplayedOn old entry new =
+    (bytes rest : List ℕ) (n : ℕ) → IsReplay old.max bytes n old → recipe_damage [] 0 new.sessions ≡ None →
+    IsReplay old.max (take old.used bytes ++ (spelling_of entry ++ rest)) (n + 1) new
+
+-- a book with a record that may follow is what a replay gives
 abbrev pub AddingIsReplaying : Type 0
 AddingIsReplaying =
-    (max : ℕ) (bytes rest : List ℕ) (n : ℕ) (book : BookState) (entry : Record) → IsReplay max bytes n book → IsRecord entry →
-    MayFollow book.max book.sessions entry → recipe_damage [] 0 (followed_by book.sessions entry) ≡ None →
-    IsReplay max (take book.used bytes ++ (spelling_of entry ++ rest)) (n + 1) (with_record book entry)
+    (book : BookState) (entry : Record) → IsRecord entry → MayFollow book.max book.sessions entry →
+    IsReplayedOn book entry (with_record book entry)

@@ -13,7 +13,7 @@ use Rattle.sd_base.specs.Cutting.{is_match, count_up, next_cut, cuts_within, cut
 use Rattle.sd_base.specs.Names.{bad_name}
 use Rattle.sd_base.specs.Packing.{packing}
 use Rattle.sd_base.specs.Words.{default_params, default_plan, bad_word, command_of}
-use Rattle.sd_base.specs.Records.{spelling_of}
+use Rattle.sd_base.specs.Records.{ingest_body, spelling_of}
 use Rattle.sd_base.specs.Books.{sessions_of, places_in, live_session, recipe_flaw, recipe_damage}
 use Rattle.sd_base.specs.Texts.{plan_text}
 use Rattle.sd_base.specs.OnePass.{one_pass}
@@ -167,17 +167,22 @@ one_pass-seventeen_bits = refl
 pub packing-two_chunks : packing (replicate 64 0 ∷ replicate 8 0 ∷ []) ≡ (codes "SSCP" ++ replicate 76 0) ∷ []
 packing-two_chunks = refl
 
--- a drop of session 0, but for its digest
-pub spelling_of-drop_0 : take 9 (spelling_of (Drop 0)) ≡ 68 ∷ 0 ∷ 0 ∷ 0 ∷ 4 ∷ 0 ∷ 0 ∷ 0 ∷ 0 ∷ []
-unfolding spelling_of
+-- a drop of session 0, digest and all
+pub spelling_of-drop_0 : spelling_of (Drop 0) ≡ 0x44 ∷ 0 ∷ 0 ∷ 0 ∷ 4 ∷ 0 ∷ 0 ∷ 0 ∷ 0 ∷ 0xcc ∷ 0xfb ∷ 0x74 ∷ 0xc7 ∷ 0x78 ∷ 0x2f ∷ 0xdf ∷ 0xbe ∷ 0xba ∷ 0xf9 ∷ 0xfc ∷ 0x24 ∷ 0x48 ∷ 0xa6 ∷ 0xa2 ∷ 0xa3 ∷ 0xab ∷ 0xec ∷ 0xce ∷ 0x62 ∷ 0x80 ∷ 0x87 ∷ 0x9b ∷ 0xa3 ∷ 0xf8 ∷ 0xd3 ∷ 5 ∷ 0xaa ∷ 0x7e ∷ 0x5f ∷ 0xa4 ∷ 0xf6 ∷ []
+unfolding spelling_of sha256 digest_bytes hash_after compress rounds schedule first_words
 spelling_of-drop_0 = refl
 
 -- two chunks of 64 and 8 bytes, and sessions of them
 abbrev two_chunks : List NewChunk
-two_chunks = record { length = 64; name = [] } ∷ record { length = 8; name = [] } ∷ []
+two_chunks = record { length = 64; name = replicate 32 1 } ∷ record { length = 8; name = replicate 32 2 } ∷ []
 
 abbrev session_of : List NewChunk → ℕ → List ℕ → IngestRecord
 session_of fresh size recipe = record { name = codes "a"; length = size; fresh = fresh; recipe = recipe }
+
+-- an ingest of 200 bytes as `a`, of two new chunks in four places: up to the length of the first chunk, and its length
+pub spelling_of-ingest_a : take 18 (spelling_of (Ingest (session_of two_chunks 200 (0 ∷ 0 ∷ 0 ∷ 1 ∷ [])))) ≡ 0x49 ∷ 0 ∷ 0 ∷ 0 ∷ 0x66 ∷ 1 ∷ 0x61 ∷ 0 ∷ 0 ∷ 0 ∷ 0xc8 ∷ 0 ∷ 0 ∷ 0 ∷ 2 ∷ 0 ∷ 0 ∷ 0 ∷ []
+unfolding spelling_of ingest_body
+spelling_of-ingest_a = refl
 
 pub recipe_flaw-of_200_zeros : recipe_flaw two_chunks (session_of two_chunks 200 (0 ∷ 0 ∷ 0 ∷ 1 ∷ [])) ≡ None
 recipe_flaw-of_200_zeros = refl

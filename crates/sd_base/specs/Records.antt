@@ -91,6 +91,14 @@ stated_length bytes = from_be_bytes w32 (slice_range bytes 1 5)
 abbrev pub IsShort : List ℕ → Type 0
 IsShort bytes = (length bytes < 5) ⊎ (length bytes < 37 + stated_length bytes)
 
+-- a kind and a body with their own digest stand at the front of bytes
+pub record BeginsSealed (bytes : List ℕ) : Type 0 where
+  pub kind : ℕ
+  pub body : List ℕ
+  pub rest : List ℕ
+  pub small : length body < 2 ^ 32
+  pub spelled : bytes ≡ sealed (digested kind body) ++ rest
+
 -- neither short nor beginning with a record of the grammar
 abbrev pub BeginsWithNone : List ℕ → Type 0
 BeginsWithNone bytes = (IsShort bytes → ⊥) × ((entry : Record) (k : ℕ) → BeginsWith bytes entry k → ⊥)

@@ -35,7 +35,7 @@ pub const MAX_PLACES: u32 = 16_777_216;
 /// The most sessions of a book, live and dropped.
 pub const MAX_SESSIONS: u32 = 4096;
 
-/// Bytes of the longest name of a session: its length is one byte of a record, and a file or a line holds it.
+/// Bytes of the longest name of a session: its length is one byte of a record.
 pub const MAX_NAME: usize = 64;
 
 /// The polynomial of degree 53 that is used where none is given, one bit a coefficient.

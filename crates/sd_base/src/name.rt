@@ -90,7 +90,7 @@ impl Name {
         ensures refused { result_err result ≡ bad_name bytes.now }
         ensures made { IfOk result (λ name. name ≡ bytes.now) }
     {
-        match flaw_of(bytes) {
+        match refusal_of(bytes) {
             Some(bad) => Err(bad),
             None => Ok(padded(bytes)),
         }
@@ -106,7 +106,7 @@ impl Name {
 }
 
 // What is wrong with bytes that are no name.
-fn flaw_of(bytes: &[u8]) -> Option<BadName>
+fn refusal_of(bytes: &[u8]) -> Option<BadName>
     ensures { result ≡ bad_name bytes.now }
 {
     if bytes.is_empty() || bytes.len() > MAX_NAME {

@@ -2,7 +2,7 @@
 use Rattle.std.proofs.Common.{◌≡◌, ℕ, suc, ◌+◌, ◌^◌, ◌<◌, ◌≤◌, Bool, true, false, cond, ltb, leb, List, [], ◌∷◌, ◌++◌, length, get_or, take, drop, Option, Some, None, refl, sym, ap, subst, ◌∙◌, append_assoc, arith, inl, inr}
 use Rattle.std.specs.Prelude.{is_some, ◌&&◌}
 use Rattle.std.specs.Int.{w32, from_be_bytes, to_be_bytes}
-use Rattle.std.proofs.lemmas.Bool.{cases_lt, ltb-false, le-ltb, leb-true, le-leb}
+use Rattle.std.proofs.lemmas.Bool.{cases_lt, ltb-false, le-ltb, leb-true, le-leb, and_parts, and_from}
 use Rattle.std.proofs.lemmas.List.{take_at, drop_at, take-append-drop, length-append, length-take, get_or-drop, get_or-take, get_or_past}
 use Rattle.std.proofs.lemmas.Nat.{be_bytes_4, from_be_bytes-to_be_bytes_4}
 use Rattle.sd_base.specs.Names.{IsName, bad_name}
@@ -49,14 +49,6 @@ unless_some false x y e = (refl, cc)
 pub when_some : {A : Type 0} (b : Bool) (r : Option A) (y : A) → cond b r None ≡ Some y → (b ≡ true) × (r ≡ Some y)
 when_some true r y e = (refl, e)
 when_some false r y e = absurd cc
-
-pub both_true : (a b : Bool) → (a && b) ≡ true → (a ≡ true) × (b ≡ true)
-both_true true b h = (refl, h)
-both_true false b h = absurd cc
-
-pub and_both : (a b : Bool) → a ≡ true → b ≡ true → (a && b) ≡ true
-and_both true b _ h = h
-and_both false b h _ = h
 
 none_from_is_some : {A : Type 0} (o : Option A) → is_some o ≡ false → o ≡ None
 none_from_is_some None _ = refl
@@ -139,7 +131,7 @@ chunk_takes bytes x fits e =
     let b = bind_some (bytes_at 32 a.0.1) (λ name. checked_chunk (record { length = a.0.0; name = name.0 }, name.1)) x a.2 in
     let made : NewChunk × List ℕ = (record { length = a.0.0; name = b.0.0 }, b.0.1) in
     let g = when_some (leb 1 a.0.0 && leb a.0.0 LARGEST_MAX) (Some made) x b.2 in
-    let tests = both_true (leb 1 a.0.0) (leb a.0.0 LARGEST_MAX) g.0 in
+    let tests = and_parts (leb 1 a.0.0) (leb a.0.0 LARGEST_MAX) g.0 in
     let t0 = number_takes bytes a.0 fits a.1 in
     let t1 = bytes_take 32 a.0.1 b.0 t0.0.rest_fits b.1 in
     let both = Takes-then bytes (number a.0.0) a.0.1 b.0.0 b.0.1 t0.0 t1.0 in
@@ -149,7 +141,7 @@ chunk_again : (chunk : NewChunk) (rest : List ℕ) → IsNewChunk chunk → chun
 unfolding chunk_at
 chunk_again chunk rest fits =
     let lt : chunk.length < 2 ^ 32 = omega (arith, fits.size) in
-    let tests : (leb 1 chunk.length && leb chunk.length LARGEST_MAX) ≡ true = and_both _ _ (le-leb _ _ fits.size.0) (le-leb _ _ fits.size.1) in
+    let tests : (leb 1 chunk.length && leb chunk.length LARGEST_MAX) ≡ true = and_from _ _ (le-leb _ _ fits.size.0) (le-leb _ _ fits.size.1) in
     ap chunk_at (append_assoc (number chunk.length) chunk.name rest) ∙ rw (number_again chunk.length (chunk.name ++ rest) lt, bytes_again 32 chunk.name rest fits.name, tests) refl
 
 pub chunk_reader : IsReader chunk_at new_chunk IsNewChunk

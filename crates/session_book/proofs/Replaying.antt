@@ -1,11 +1,12 @@
 -- Reading a book record by record gives its records and no others.
 use Rattle.std.proofs.Common.{◌≡◌, ℕ, ◌+◌, ◌*◌, ◌<◌, ◌≤◌, true, cond, List, [], ◌∷◌, ◌++◌, length, take, drop, Some, None, refl, sym, ap, subst, ◌∙◌, append_assoc, length-append, arith}
+use Rattle.std.specs.Prelude.{Result, Ok, Err, OnOk}
 use Rattle.std.specs.List.{fold}
 use Rattle.std.proofs.lemmas.Grind.{flat_map-append}
 use Rattle.std.proofs.lemmas.List.{append-nil, length-take, take-append-drop, take_at}
 use Rattle.std.proofs.lemmas.List.Sums.{sum_by-append, fold-append}
 use Rattle.sd_base.specs.Records.{spelling_of, IsRecord, BeginsWith}
-use Rattle.sd_base.specs.Books.{BookState, followed_by, sessions_of, MayFollow, AreRecords, book_of, book_after, with_record, recipe_damage, AddingIsReplaying, IsReplay, IsRecordDamage, IsRecipeDamage}
+use Rattle.sd_base.specs.Books.{BookState, followed_by, sessions_of, MayFollow, AreRecords, book_of, book_after, with_record, recipe_damage, IsReplayedOn, AddingIsReplaying, IsReplay, IsRecordDamage, IsRecipeDamage}
 use Rattle.sd_base.specs.declared.damage.Damage.{Damage}
 use Rattle.sd_base.specs.declared.damage.Damage.TheVariants.{Record as BadRecord}
 use Rattle.sd_base.specs.declared.limits.TheConstants.{MAX_SESSIONS}
@@ -126,8 +127,9 @@ next_from old new bytes rest entry n begins follows behind added = record {
 
 -- ---- a record that is added
 
-pub adding : AddingIsReplaying
-adding max bytes rest n book entry replay lawful follows recipes =
+added : (max : ℕ) (bytes rest : List ℕ) (n : ℕ) (book : BookState) (entry : Record) → IsReplay max bytes n book → IsRecord entry → MayFollow book.max book.sessions entry → recipe_damage [] 0 (followed_by book.sessions entry) ≡ None
+    → IsReplay max (take book.used bytes ++ (spelling_of entry ++ rest)) (n + 1) (with_record book entry)
+added max bytes rest n book entry replay lawful follows recipes =
     let records = replay.records in
     let used : book.used ≡ length (book_of records) = ap (λ (book : BookState). book.used) replay.is in
     let front : take book.used bytes ≡ book_of records = ap (take book.used) replay.holds.spelled ∙ take_at (book_of records) replay.holds.behind book.used (sym used) in
@@ -143,3 +145,10 @@ adding max bytes rest n book entry replay lawful follows recipes =
       recipes = ap (λ (book : BookState). recipe_damage [] 0 book.sessions) (sym after) ∙ recipes;
       is = after;
     }
+
+pub adding : AddingIsReplaying
+adding book entry lawful follows = λ bytes rest n replay recipes. added book.max bytes rest n book entry replay lawful follows recipes
+
+pub replayed_on : {E : Type 0} (old new : BookState) (entry : Record) (r : Result (Unit {0}) E) → IsRecord entry → MayFollow old.max old.sessions entry → OnOk r (new ≡ with_record old entry) → OnOk r (IsReplayedOn old entry new)
+replayed_on old new entry (Ok done) lawful follows e = subst (IsReplayedOn old entry) (sym e) (adding old entry lawful follows)
+replayed_on old new entry (Err e) lawful follows _ = tt

@@ -1,6 +1,6 @@
 -- The step that bytes give is a record exactly where they begin with one, and short exactly by their number.
 use Rattle.std.proofs.Common.{◌≡◌, ℕ, ◌+◌, ◌^◌, ◌<◌, ◌≤◌, Bool, true, false, cond, List, [], ◌∷◌, ◌++◌, length, take, drop, Option, Some, None, refl, sym, ap, subst, ◌∙◌, append_assoc, length-append, arith, inl, inr}
-use Rattle.std.specs.Prelude.{◌↔◌, ◌⊎◌, IfOk, Result, Ok, Err}
+use Rattle.std.specs.Prelude.{◌↔◌, ◌⊎◌, IsTrue, IfOk, OnErr, Result, Ok, Err}
 use Rattle.std.specs.Int.{w32, from_be_bytes}
 use Rattle.std.specs.Str.{bytes_eq}
 use Rattle.std.proofs.lemmas.Bool.{cases_lt, le-ltb}
@@ -9,7 +9,7 @@ use Rattle.std.proofs.lemmas.Nat.{from_be_bytes-to_be_bytes_4}
 use Rattle.std.proofs.lemmas.Slice.Eq.{bytes_eq-Decides}
 use Rattle.sha2.specs.Sha256.{sha256}
 use Rattle.sha2.proofs.Facts256.{length-sha256}
-use Rattle.sd_base.specs.Records.{number, digested, sealed, kind_of, body_of, spelling_of, IsRecord, BeginsWith, stated_length, IsShort, BeginsWithNone}
+use Rattle.sd_base.specs.Records.{number, digested, sealed, kind_of, body_of, spelling_of, IsRecord, BeginsWith, stated_length, IsShort, BeginsWithNone, BeginsSealed}
 use Rattle.sd_base.specs.declared.record.Record.{Record}
 use Rattle.session_book.specs.Reading.{◌>>=◌, number_at, bytes_at, record_of, parts_at, whole_or_bad, step_of_body, step_of_parts, step_of}
 use Rattle.session_book.specs.declared.step.Step.{Step}
@@ -103,7 +103,7 @@ parts_long bytes parts are short =
     ap stated_length are.spelled ∙ stated_of parts.0 parts.1 (parts.2 ++ parts.3) are.small in
     elim short [ inl few ↦ omega arith | inr fewer ↦ omega arith ]
 
-short_is_no_parts : (bytes : List ℕ) → IsBytes bytes → (parts_at bytes ≡ None) ↔ IsShort bytes
+pub short_is_no_parts : (bytes : List ℕ) → IsBytes bytes → (parts_at bytes ≡ None) ↔ IsShort bytes
 short_is_no_parts bytes fits = (
   λ none. elim (cases_lt (length bytes) 5) [
     | inl few ↦ inl few
@@ -117,6 +117,20 @@ short_is_no_parts bytes fits = (
     | inr found ↦ absurd (parts_long bytes found.0 (parts_take bytes found.0 fits found.1) short)
   ],
 )
+
+-- bytes with parts of which the digest fits
+sealed_front : (bytes : List ℕ) (parts : Parts) → IsBytes bytes → parts_at bytes ≡ Some parts → bytes_eq (sha256 (digested parts.0 parts.1)) parts.2 ≡ true → BeginsSealed bytes
+sealed_front bytes parts fits found e =
+    let are = parts_take bytes parts fits found in
+    let text = digested parts.0 parts.1 in
+    let same : sha256 text ≡ parts.2 = (bytes_eq-Decides (sha256 text) parts.2).0 e in
+    record {
+      kind = parts.0;
+      body = parts.1;
+      rest = parts.3;
+      small = are.small;
+      spelled = are.spelled ∙ sym (append_assoc text parts.2 parts.3) ∙ ap (λ (t : List ℕ). (text ++ t) ++ parts.3) (sym same);
+    }
 
 -- ---- the step
 
@@ -222,6 +236,10 @@ bad_if_ok bytes (Err e) fits _ = tt
 pub again_if_ok : {E : Type 0} (bytes : List ℕ) (r : Result Step E) → IfOk r (λ step. step ≡ step_of bytes) → IfOk r (λ step. (entry : Record) (rest : List ℕ) → IsRecord entry → bytes ≡ spelling_of entry ++ rest → step ≡ Whole entry (length (spelling_of entry)))
 again_if_ok bytes (Ok step) e = λ entry rest lawful spelled. e ∙ ap step_of spelled ∙ step_again entry rest lawful
 again_if_ok bytes (Err e) _ = tt
+
+pub sealed_if_err : {E : Type 0} (bytes : List ℕ) (parts : Parts) (r : Result Step E) → IsBytes bytes → parts_at bytes ≡ Some parts → OnErr r (IsTrue (bytes_eq (sha256 (digested parts.0 parts.1)) parts.2)) → OnErr r (BeginsSealed bytes)
+sealed_if_err bytes parts (Ok step) fits found _ = tt
+sealed_if_err bytes parts (Err e) fits found holds = sealed_front bytes parts fits found holds
 
 -- ---- no spelling begins another
 

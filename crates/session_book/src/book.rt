@@ -1,12 +1,12 @@
 //! The book of a store.
-ghost use Rattle.std.specs.Prelude.{◌≡◌, [], length, option_map, option_copied, IfOk, OnOk, OnErr, IsTrue, ◌↔◌, ◌≤◌};
+ghost use Rattle.std.specs.Prelude.{◌≡◌, ◌<◌, ◌^◌, ℕ, [], length, option_map, option_copied, IfOk, OnOk, OnErr, IsOk, IsTrue, ◌↔◌, ◌≤◌};
 ghost use Rattle.std.specs.List.{All, slice_get};
-ghost use Rattle.sd_base.specs.Records.{IsInLimits, HasSpelling};
+ghost use Rattle.sd_base.specs.Records.{IsInLimits, IsIngest, IsRecord, HasSpelling};
 ghost use Rattle.session_book.specs.BookFields.{HasRoom};
-ghost use Rattle.sd_base.specs.Books.{BookState, chunks_in, places_in, is_live, live_session, without, MayIngest, MayFollow, recipe_damage, with_record};
+ghost use Rattle.sd_base.specs.Books.{BookState, chunks_in, places_in, is_live, live_session, without, MayIngest, MayFollow, recipe_damage, with_record, IsReplayedOn};
 
 use crate::lengths::DROP_LEN;
-use crate::recipes::first_flaw;
+use crate::recipes::first_damage;
 use crate::writing::ingest_len;
 use sd_base::{
     Damage, IngestRecord, MAX_CHUNKS, MAX_PLACES, MAX_SESSIONS, Name, NewChunk, OutOfMemory,
@@ -63,6 +63,13 @@ impl Book {
         requires follows { MayFollow self.old.max self.old.sessions entry }
         ensures added { OnOk result (self.new ≡ with_record self.old entry) }
         ensures unchanged { OnErr result (self.new ≡ self.old) }
+
+        // It is the book that a replay with this record more gives.
+        ensures lawful { IsRecord entry }
+        ensures replayed { OnOk result (IsReplayedOn self.old entry self.new) }
+
+        // A drop takes no memory.
+        ensures drops { (session : ℕ) → entry ≡ Record.Drop session → IsOk result }
     {
         match entry {
             Record::Ingest(entry) => self.ingest(entry),
@@ -79,6 +86,7 @@ impl Book {
         requires follows { MayIngest self.old.max self.old.sessions entry }
         ensures added { OnOk result (self.new ≡ with_record self.old (Record.Ingest entry)) }
         ensures unchanged { OnErr result (self.new ≡ self.old) }
+        ensures lawful { IsIngest entry }
     {
         let size = ingest_len(&entry);
         let places = entry.recipe.as_slice().len() as u32;
@@ -98,7 +106,8 @@ impl Book {
     // Adds a drop.
     fn drop_session(&mut self, session: u32)
         requires { IsTrue (is_live self.old.sessions session) }
-        ensures { self.new ≡ with_record self.old (Record.Drop session) }
+        ensures dropped { self.new ≡ with_record self.old (Record.Drop session) }
+        ensures lawful { session < 2 ^ 32 }
     {
         let name = self.sessions[session as usize].entry.name;
         self.by_name.remove(&name);
@@ -120,9 +129,9 @@ impl Book {
     fn may_ingest(&self, entry: &IngestRecord) -> bool
         ensures { IsTrue result ↔ MayIngest self.now.max self.now.sessions entry.now }
     {
-        are_short(entry.fresh.as_slice(), self.max)
+        self.has_room(entry)
             && self.find(&entry.name).is_none()
-            && self.has_room(entry)
+            && are_short(entry.fresh.as_slice(), self.max)
     }
 
     // Whether an ingest keeps the book in its limits.
@@ -135,10 +144,10 @@ impl Book {
     }
 
     // The first recipe that fails.
-    pub(crate) fn first_flaw(&self) -> Option<Damage>
+    pub(crate) fn first_damage(&self) -> Option<Damage>
         ensures { result ≡ recipe_damage [] 0 self.now.sessions }
     {
-        first_flaw(&self.sessions, &self.chunks)
+        first_damage(&self.sessions, &self.chunks)
     }
 
     /// Whether the session of a number is there and is live.

@@ -1,5 +1,5 @@
-use crate::tests::sealed;
-use crate::{Book, BookFault, Record};
+use crate::tests::{Seen, answer, sealed};
+use crate::{Book, BookFault, IngestRecord, NewChunk, NewChunks, Recipe, Record};
 use sd_base::{Damage, Name};
 use std::alloc::{AllocError, Global};
 use std::test::Fail;
@@ -32,18 +32,21 @@ fn session_a(alloc: Global) -> Result<Vec<u8>, AllocError> {
     sealed(alloc, b'I', &parts)
 }
 
+// The record of session `b`: the same, with no new chunk.
+fn session_b(alloc: Global) -> Result<Vec<u8>, AllocError> {
+    sealed(alloc, b'I', &[b"\x01b\0\0\0\xc8", &[0; 4], &PLACES])
+}
+
 #[test]
 fn two_sessions_are_replayed_and_one_is_dropped(rt: HostRuntime) -> Result<(), Fail> {
     let alloc = rt.alloc();
     let mut bytes = session_a(alloc)?;
-    let second = sealed(alloc, b'I', &[b"\x01b\0\0\0\xc8", &[0; 4], &PLACES])?;
-    bytes.extend_from_slice(&second)?;
+    bytes.extend_from_slice(&session_b(alloc)?)?;
     bytes.push(b'I')?;
     let book = Book::replay(alloc, &bytes, 2, 256).ok();
     let mut book = book.ok_or("no damage")?;
     let name = Name::read(b"a").ok().ok_or("a name")?;
     assert_eq!(rt; book.sessions(), 2);
-    assert_eq!(rt; book.chunks().len(), 2);
     assert_eq!(rt; book.places(), 8);
     assert_eq!(rt; book.used(), 206);
     assert_eq!(rt; book.find(&name), Some(0));
@@ -54,51 +57,101 @@ fn two_sessions_are_replayed_and_one_is_dropped(rt: HostRuntime) -> Result<(), F
     assert!(rt; !book.live(2));
     assert_eq!(rt; book.used(), 247);
     assert_eq!(rt; book.find(&name), None);
-    assert!(rt; book.session(0).is_some());
     assert!(rt; book.session(2).is_none());
+    let first = book.session(0).ok_or("a session")?;
+    assert_eq!(rt; first.name.as_bytes(), b"a".as_slice());
+    assert_eq!(rt; first.recipe.as_slice(), [0, 0, 0, 1].as_slice());
+    assert_eq!(rt; first.fresh.as_slice(), book.chunks());
+    assert_eq!(rt; book.chunks(), [chunk(64, Z64), chunk(8, Z8)].as_slice());
     Ok(())
 }
 
-// The first bad record of the book of sessions `a` and `b` where a byte is changed or is the first that is not there.
-fn damage_at(place: usize) -> Result<u32, BookFault> {
-    bad_record(if place < 139 { 0 } else { 1 })
+fn chunk(length: u32, name: [u8; 32]) -> NewChunk {
+    NewChunk { length, name }
 }
 
+// An empty session is added to a book of `a`, dropped and added again.
+#[test]
+fn sessions_are_added(rt: HostRuntime) -> Result<(), Fail> {
+    let alloc = rt.alloc();
+    let book = Book::replay(alloc, &session_a(alloc)?, 1, 256).ok();
+    let mut book = book.ok_or("no damage")?;
+    let name = Name::read(b"b").ok().ok_or("a name")?;
+    for session in [1u32, 2] {
+        assert_eq!(rt; book.find(&name), None);
+        let entry = Record::Ingest(IngestRecord {
+            name,
+            length: 0,
+            fresh: NewChunks::from(Vec::new(alloc)),
+            recipe: Recipe::from(Vec::new(alloc)),
+        });
+        assert!(rt; book.may_add(&entry));
+        assert!(rt; book.add(entry).is_ok());
+        assert_eq!(rt; book.find(&name), Some(session));
+        assert_eq!(rt; book.sessions(), session + 1);
+        assert!(rt; book.live(session));
+        assert!(rt; book.add(Record::Drop(session)).is_ok());
+    }
+    assert_eq!(rt; book.places(), 4);
+    assert_eq!(rt; book.chunks().len(), 2);
+    assert_eq!(rt; book.used(), 139 + 2 * (51 + 41));
+    Ok(())
+}
+
+// The book of sessions `a` and `b` and the drop of `a`: what a replay gives of each cut, and with each value of each byte.
 #[test]
 fn every_cut_and_every_changed_byte_is_damage(rt: HostRuntime) -> Result<(), Fail> {
     let alloc = rt.alloc();
     let mut bytes = session_a(alloc)?;
-    let second = sealed(alloc, b'I', &[b"\x01b\0\0\0\xc8", &[0; 4], &PLACES])?;
-    bytes.extend_from_slice(&second)?;
-    assert_eq!(rt; bytes.len(), 206);
-    for place in 0..206usize {
+    bytes.extend_from_slice(&session_b(alloc)?)?;
+    bytes.extend_from_slice(&sealed(alloc, b'D', &[&[0; 4]])?)?;
+    assert_eq!(rt; bytes.len(), 247);
+    for place in 0..247usize {
+        let k = record_at(place);
         let front = bytes.get(..place).ok_or("a front")?;
-        assert_eq!(rt; replayed(alloc, front, 2, 256), damage_at(place));
-        if let Some(byte) = bytes.get_mut(place) {
-            *byte ^= 1;
-        }
-        assert_eq!(rt; replayed(alloc, &bytes, 2, 256), damage_at(place));
-        if let Some(byte) = bytes.get_mut(place) {
-            *byte ^= 1;
+        assert_eq!(rt; replayed(alloc, front, 3, 256), bad_record(k));
+        for change in 1..256u32 {
+            flip(&mut bytes, place, change as u8);
+            assert_eq!(rt; replayed(alloc, &bytes, 3, 256), bad_record(k));
+            flip(&mut bytes, place, change as u8);
         }
     }
-    assert_eq!(rt; replayed(alloc, &bytes, 2, 256), Ok(2));
+    assert_eq!(rt; replayed(alloc, &bytes, 3, 256), Ok(2));
+    assert_eq!(rt; replayed(alloc, &bytes, 4, 256), bad_record(3));
     Ok(())
 }
 
-#[test]
-fn noise_is_no_record(rt: HostRuntime) -> Result<(), Fail> {
-    let alloc = rt.alloc();
-    let mut state = 1u32;
-    for _ in 0..100 {
-        let mut noise = Vec::new(alloc);
-        for _ in 0..100 {
-            state = state.wrapping_mul(1_664_525).wrapping_add(1_013_904_223);
-            noise.push(state.to_be_bytes()[0])?;
-        }
-        assert_eq!(rt; replayed(alloc, &noise, 1, 256), bad_record(0));
+// The record of that book in which a place lies.
+fn record_at(place: usize) -> u32 {
+    match place {
+        0..=138 => 0,
+        139..=205 => 1,
+        _ => 2,
     }
+}
+
+// The record of `b` with another byte: no record, and fewer bytes than one has only where the length of the body is stated.
+#[test]
+fn a_changed_record_is_no_record(rt: HostRuntime) -> Result<(), Fail> {
+    let alloc = rt.alloc();
+    let mut bytes = session_b(alloc)?;
+    for place in 0..67usize {
+        for change in 1..256u32 {
+            flip(&mut bytes, place, change as u8);
+            let seen = answer(alloc, &bytes);
+            assert!(rt; seen == Seen::Bad || (1 <= place && place < 5 && seen == Seen::Short));
+            flip(&mut bytes, place, change as u8);
+        }
+    }
+    assert_eq!(rt; answer(alloc, &bytes), Seen::Whole(67));
     Ok(())
+}
+
+// Changes the bits of a byte that stand in `change`.
+fn flip(bytes: &mut [u8], place: usize, change: u8) {
+    if let Some(byte) = bytes.get_mut(place) {
+        *byte ^= change;
+    }
 }
 
 // How many sessions a replay gives.
@@ -138,6 +191,7 @@ fn damages_behind_a_session(rt: HostRuntime) -> Result<(), Fail> {
             bytes.extend_from_slice(&next)?;
         }
         assert_eq!(rt; replayed(alloc, &bytes, 3, *max), *want);
+        assert_eq!(rt; replayed(alloc, &bytes, 4, *max), with_one_missing(*want));
         assert_eq!(rt; replayed(alloc, &bytes, 4, 63), bad_record(0));
         if let Some(byte) = bytes.get_mut(138) {
             *byte ^= 1;
@@ -147,6 +201,14 @@ fn damages_behind_a_session(rt: HostRuntime) -> Result<(), Fail> {
     Ok(())
 }
 
+// What a replay gives of three records that gave this, where four are to be there: a bad record comes before a recipe.
+fn with_one_missing(given: Result<u32, BookFault>) -> Result<u32, BookFault> {
+    match given {
+        Err(BookFault::Damaged(Damage::Record(_))) => given,
+        _ => bad_record(3),
+    }
+}
+
 fn bad_record(k: u32) -> Result<u32, BookFault> {
     Err(BookFault::Damaged(Damage::Record(k)))
 }
@@ -154,6 +216,37 @@ fn bad_record(k: u32) -> Result<u32, BookFault> {
 // A recipe of session `b` that fails at a place.
 fn bad_recipe(place: u32) -> Result<u32, BookFault> {
     Err(BookFault::Damaged(Damage::Recipe { session: 1, place }))
+}
+
+// Sessions of no bytes: as many as a book may have, dropped ones too, and one more.
+#[test]
+fn most_sessions(rt: HostRuntime) -> Result<(), Fail> {
+    let alloc = rt.alloc();
+    let mut bytes = Vec::new(alloc);
+    for session in 0..4096u32 {
+        bytes.extend_from_slice(&empty_session(alloc, session)?)?;
+    }
+    let book = Book::replay(alloc, &bytes, 4096, 64).ok();
+    let book = book.ok_or("no damage")?;
+    for session in [0u32, 1, 2048, 4095] {
+        let name = book.session(session).ok_or("a session")?.name;
+        assert_eq!(rt; book.find(&name), Some(session));
+    }
+    bytes.extend_from_slice(&sealed(alloc, b'D', &[&[0; 4]])?)?;
+    bytes.extend_from_slice(&empty_session(alloc, 0)?)?;
+    assert_eq!(rt; replayed(alloc, &bytes, 4097, 64), Ok(4096));
+    assert_eq!(rt; replayed(alloc, &bytes, 4098, 64), bad_record(4097));
+    Ok(())
+}
+
+// A session of no bytes, with a name of three letters for each number below 4096.
+fn empty_session(alloc: Global, session: u32) -> Result<Vec<u8>, AllocError> {
+    let letters = [
+        b'a' + (session / 256 % 16) as u8,
+        b'a' + (session / 16 % 16) as u8,
+        b'a' + (session % 16) as u8,
+    ];
+    sealed(alloc, b'I', &[&[3], &letters, &[0; 12]])
 }
 
 // A session of 100,000 chunks of one byte each.

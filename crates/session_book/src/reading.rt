@@ -1,9 +1,10 @@
 //! Fields of a record, read from the front of bytes.
-ghost use Rattle.std.specs.Prelude.{◌≡◌, ℕ, List, Option, option_map};
+ghost use Rattle.std.specs.Prelude.{◌≡◌, ◌*◌, ◌<◌, ◌≤◌, ℕ, List, [], length, Option, option_map, IfOk};
+ghost use Rattle.std.specs.Vec.{vec_capacity};
 ghost use Rattle.session_book.specs.Reading.{Gives, number_at, bytes_at, name_at, chunk_at, list_at, chunks_at, entries_at, ingest_at, ingest_behind, record_of};
 ghost use Rattle.session_book.specs.declared.reading.Stop.TheVariants.{Memory};
 
-use crate::lengths::{NEW_CHUNK_LEN, NUMBER_LEN};
+use crate::lengths::{DIGEST_LEN, NEW_CHUNK_LEN, NUMBER_LEN};
 use sd_base::{
     IngestRecord, LARGEST_MAX, MAX_CHUNKS, MAX_PLACES, Name, NewChunk, NewChunks, Recipe, Record,
 };
@@ -38,10 +39,10 @@ impl<T: Drop> From<AllocFailed<T>> for Stop {
 pub fn split_number(bytes: &[u8]) -> Option<(u32, &[u8])>
     ensures { option_map (λ x. (x.0, x.1.now)) result ≡ number_at bytes.now }
 {
-    if bytes.len() < 4 {
+    if bytes.len() < NUMBER_LEN {
         return None;
     }
-    let (front, rest) = bytes.split_at(4);
+    let (front, rest) = bytes.split_at(NUMBER_LEN);
     let number = u32::from_be_bytes([front[0], front[1], front[2], front[3]]);
     Some((number, rest))
 }
@@ -60,20 +61,14 @@ pub fn split_front(bytes: &[u8], len: usize) -> Option<(&[u8], &[u8])>
 fn number(bytes: &[u8]) -> Result<(u32, &[u8]), Stop>
     ensures { Gives (λ x. (x.0, x.1.now)) result (number_at bytes.now) }
 {
-    match split_number(bytes) {
-        Some(found) => Ok(found),
-        None => Err(Stop::Unspelled),
-    }
+    split_number(bytes).ok_or(Stop::Unspelled)
 }
 
 // The first bytes.
 fn front(bytes: &[u8], len: usize) -> Result<(&[u8], &[u8]), Stop>
     ensures { Gives (λ x. (x.0.now, x.1.now)) result (bytes_at len bytes.now) }
 {
-    match split_front(bytes, len) {
-        Some(found) => Ok(found),
-        None => Err(Stop::Unspelled),
-    }
+    split_front(bytes, len).ok_or(Stop::Unspelled)
 }
 
 // The name of a session.
@@ -97,11 +92,11 @@ fn name(bytes: &[u8]) -> Result<(Name, &[u8]), Stop>
 fn chunk_name(bytes: &[u8]) -> Result<([u8; 32], &[u8]), Stop>
     ensures { Gives (λ x. (x.0, x.1.now)) result (bytes_at 32 bytes.now) }
 {
-    if bytes.len() < 32 {
+    if bytes.len() < DIGEST_LEN {
         return Err(Stop::Unspelled);
     }
-    let (front, rest) = bytes.split_at(32);
-    let mut name = [0; 32];
+    let (front, rest) = bytes.split_at(DIGEST_LEN);
+    let mut name = [0; DIGEST_LEN];
     name.copy_from_slice(front);
     Ok((name, rest))
 }
@@ -117,6 +112,21 @@ fn chunk(bytes: &[u8]) -> Result<(NewChunk, &[u8]), Stop>
         return Err(Stop::Unspelled);
     }
     Ok((NewChunk { length, name }, rest))
+}
+
+// An empty list with room for so many items of this length, but for no more than the bytes can hold: a count that is
+// stated is not trusted.
+fn list_for<T>(
+    alloc: Global,
+    count: u32,
+    item_len: usize,
+    bytes: &[u8],
+) -> Result<Vec<T>, AllocError>
+    requires { 0 < item_len }
+    ensures empty { IfOk result (λ list. list.items ≡ []) }
+    ensures room { IfOk result (λ list. vec_capacity list * item_len ≤ length bytes.now) }
+{
+    Vec::with_capacity(alloc, (count as usize).min(bytes.len() / item_len))
 }
 
 // An item of a list.
@@ -144,16 +154,12 @@ impl Item for NewChunk {
     }
 }
 
-// So many items, in a list with room for those that the bytes can hold.
-fn list<T: Item>(
-    alloc: Global,
-    count: u32,
-    room: usize,
-    bytes: &[u8],
-) -> Result<(Vec<T>, &[u8]), Stop>
+// So many items, pushed to an empty list.
+fn list<T: Item>(list: Vec<T>, count: u32, bytes: &[u8]) -> Result<(Vec<T>, &[u8]), Stop>
+    requires { list.items ≡ [] }
     ensures { Gives (λ x. (x.0.items, x.1.now)) result (list_at T.at count bytes.now) }
 {
-    let mut list = Vec::with_capacity(alloc, room.min(count as usize))?;
+    let mut list = list;
     let mut rest = bytes;
     'items: for _ in 0..count {
         let (item, after) = T::read(rest)?;
@@ -172,7 +178,7 @@ fn chunks(alloc: Global, bytes: &[u8]) -> Result<(Vec<NewChunk>, &[u8]), Stop>
     if count > MAX_CHUNKS {
         return Err(Stop::Unspelled);
     }
-    list(alloc, count, rest.len() / NEW_CHUNK_LEN, rest)
+    list(list_for(alloc, count, NEW_CHUNK_LEN, rest)?, count, rest)
 }
 
 // The entries of a recipe, behind their number.
@@ -184,7 +190,7 @@ fn entries(alloc: Global, bytes: &[u8]) -> Result<(Vec<u32>, &[u8]), Stop>
     if count > MAX_PLACES {
         return Err(Stop::Unspelled);
     }
-    list(alloc, count, rest.len() / NUMBER_LEN, rest)
+    list(list_for(alloc, count, NUMBER_LEN, rest)?, count, rest)
 }
 
 // An ingest.

@@ -6,7 +6,7 @@ ghost use Rattle.sd_base.specs.Books.{chunks_in, places_in, bytes_named, recipe_
 use sd_base::{Damage, IngestRecord, MAX_CHUNKS, MAX_PLACES, MAX_SESSIONS, NewChunk, Session};
 
 // The first recipe that fails.
-pub fn first_flaw(sessions: &[Session], chunks: &[NewChunk]) -> Option<Damage>
+pub fn first_damage(sessions: &[Session], chunks: &[NewChunk]) -> Option<Damage>
     requires chunks { chunks.now ≡ chunks_in sessions.now }
     requires few { length chunks.now ≤ MAX_CHUNKS }
     requires places { places_in sessions.now ≤ MAX_PLACES }

@@ -39,7 +39,7 @@ fn checked_book(alloc: Global, bytes: &[u8], records: u64, max: u32) -> Result<B
     ensures { Replays max bytes.now records result }
 {
     let book = read_book(alloc, bytes, records, max)?;
-    match book.first_flaw() {
+    match book.first_damage() {
         Some(damage) => Err(BookFault::Damaged(damage)),
         None => Ok(book),
     }

@@ -1,11 +1,11 @@
 //! The record at the front of a book.
-ghost use Rattle.std.specs.Prelude.{◌≡◌, ◌↔◌, ℕ, ◌<◌, ◌^◌, List, ◌++◌, length, option_map, IfOk};
+ghost use Rattle.std.specs.Prelude.{◌≡◌, ◌↔◌, ℕ, ◌<◌, ◌^◌, List, ◌++◌, length, option_map, None, Ok, IsTrue, IfOk, OnErr};
 ghost use Rattle.std.specs.Str.{bytes_eq};
 ghost use Rattle.sha2.specs.Sha256.{sha256};
-ghost use Rattle.sd_base.specs.Records.{digested, spelling_of, IsRecord, IsShort, BeginsWith, BeginsWithNone};
+ghost use Rattle.sd_base.specs.Records.{digested, spelling_of, IsRecord, IsShort, BeginsWith, BeginsWithNone, BeginsSealed};
 ghost use Rattle.session_book.specs.Reading.{parts_at, step_of_body, step_of};
 
-use crate::lengths::AROUND_BODY;
+use crate::lengths::{AROUND_BODY, DIGEST_LEN};
 use crate::reading::{Stop, record_in, split_front, split_number};
 use sd_base::{OutOfMemory, Record};
 use sha2::{Digest, Sha256};
@@ -16,7 +16,7 @@ use std::alloc::Global;
 pub enum Step {
     /// A record, and how many bytes spell it.
     Whole(Record, u32),
-    /// Fewer bytes than the record has that they begin.
+    /// Fewer bytes than the record that they begin has.
     Short,
     /// As many bytes, and no record of the grammar.
     Bad,
@@ -31,6 +31,10 @@ pub fn next_record(alloc: Global, bytes: &[u8]) -> Result<Step, OutOfMemory>
     ensures short { IfOk result (λ step. (step ≡ Step.Short) ↔ IsShort bytes.now) }
     ensures bad { IfOk result (λ step. (step ≡ Step.Bad) ↔ BeginsWithNone bytes.now) }
 
+    // Bytes that are short take no memory, and so do all that do not begin with a body and its own digest.
+    ensures at_once { IsShort bytes.now → result ≡ Ok Step.Short }
+    ensures sealed { OnErr result (BeginsSealed bytes.now) }
+
     // What was written is read again, whatever follows.
     ensures again { IfOk result (λ step. (entry : Record) (rest : List ℕ) → IsRecord entry
         → bytes.now ≡ spelling_of entry ++ rest → step ≡ Step.Whole entry (length (spelling_of entry))) }
@@ -41,7 +45,9 @@ pub fn next_record(alloc: Global, bytes: &[u8]) -> Result<Step, OutOfMemory>
 // The step of bytes, as reading from left to right gives it.
 #[tactic(auto, unfolding(crate::specs::Reading::step_of))]
 fn front_step(alloc: Global, bytes: &[u8]) -> Result<Step, OutOfMemory>
-    ensures { IfOk result (λ step. step ≡ step_of bytes.now) }
+    ensures step { IfOk result (λ step. step ≡ step_of bytes.now) }
+    ensures at_once { parts_at bytes.now ≡ None → result ≡ Ok Step.Short }
+    ensures sealed { OnErr result (BeginsSealed bytes.now) }
 {
     match parts(bytes) {
         None => Ok(Step::Short),
@@ -59,7 +65,7 @@ fn parts(bytes: &[u8]) -> Option<(u8, &[u8], &[u8], &[u8])>
         [kind, rest @ ..] => {
             let (size, rest) = split_number(rest)?;
             let (body, rest) = split_front(rest, size as usize)?;
-            let (digest, rest) = split_front(rest, 32)?;
+            let (digest, rest) = split_front(rest, DIGEST_LEN)?;
             Some((*kind, body, digest, rest))
         }
     }
@@ -68,7 +74,8 @@ fn parts(bytes: &[u8]) -> Option<(u8, &[u8], &[u8], &[u8])>
 // The step of a kind, a body and a digest.
 fn body_step(alloc: Global, kind: u8, body: &[u8], digest: &[u8]) -> Result<Step, OutOfMemory>
     requires { length body.now < 2 ^ 32 }
-    ensures { IfOk result (λ step. step ≡ step_of_body kind body.now digest.now) }
+    ensures step { IfOk result (λ step. step ≡ step_of_body kind body.now digest.now) }
+    ensures sealed { OnErr result (IsTrue (bytes_eq (sha256 (digested kind body.now)) digest.now)) }
 {
     if !is_digest(kind, body, digest) {
         return Ok(Step::Bad);

@@ -1,18 +1,18 @@
-use crate::{Record, Step, encode_record, next_record};
+use crate::{IngestRecord, NewChunk, Record, Step, encode_record, next_record};
 use sd_base::OutOfMemory;
 use sha2::{Digest, Sha256};
 use std::alloc::{AllocError, Global};
 use std::test::Fail;
 
 #[derive(Clone, Copy, Debug, PartialEq, Eq)]
-enum Seen {
+pub enum Seen {
     Whole(u32),
     Short,
     Bad,
     NoMemory,
 }
 
-fn answer(alloc: Global, bytes: &[u8]) -> Seen {
+pub fn answer(alloc: Global, bytes: &[u8]) -> Seen {
     match next_record(alloc, bytes) {
         Ok(Step::Whole(_, used)) => Seen::Whole(used),
         Ok(Step::Short) => Seen::Short,
@@ -44,6 +44,14 @@ fn written_again(alloc: Global, bytes: &[u8]) -> Option<Vec<u8>> {
     }
 }
 
+// The ingest that bytes begin with.
+fn ingest_in(alloc: Global, bytes: &[u8]) -> Option<IngestRecord> {
+    match next_record(alloc, bytes) {
+        Ok(Step::Whole(Record::Ingest(entry), _)) => Some(entry),
+        _ => None,
+    }
+}
+
 #[test]
 fn a_drop_is_read_again_whatever_follows(rt: HostRuntime) -> Result<(), Fail> {
     let alloc = rt.alloc();
@@ -57,6 +65,10 @@ fn a_drop_is_read_again_whatever_follows(rt: HostRuntime) -> Result<(), Fail> {
     assert_eq!(rt; answer(alloc, front), Seen::Short);
     bytes.push(0xFF)?;
     assert_eq!(rt; answer(alloc, &bytes), Seen::Whole(41));
+    if let Some(last) = bytes.get_mut(40) {
+        *last ^= 1;
+    }
+    assert_eq!(rt; answer(alloc, &bytes), Seen::Bad);
     Ok(())
 }
 
@@ -81,6 +93,22 @@ fn an_ingest_has_its_one_spelling(rt: HostRuntime) -> Result<(), Fail> {
     assert_eq!(rt; answer(alloc, &bytes), Seen::Whole(139));
     let again = written_again(alloc, &bytes).ok_or("a record")?;
     assert_eq!(rt; again.as_slice(), bytes.as_slice());
+    let entry = ingest_in(alloc, &bytes).ok_or("an ingest")?;
+    assert_eq!(rt; entry.name.as_bytes(), b"a".as_slice());
+    assert_eq!(rt; entry.length, 200);
+    let first = NewChunk {
+        length: 64,
+        name: zeros,
+    };
+    let second = NewChunk {
+        length: 8,
+        name: fewer,
+    };
+    assert_eq!(rt;
+        entry.fresh.into_vec().as_slice(),
+        [first, second].as_slice()
+    );
+    assert_eq!(rt; entry.recipe.into_vec().as_slice(), [0, 0, 0, 1].as_slice());
     Ok(())
 }
 
@@ -95,54 +123,25 @@ fn bodies_in_the_grammar_and_not(rt: HostRuntime) -> Result<(), Fail> {
     let name: &[u8] = &[7; 32];
     let a: &[u8] = b"\x01a";
     let letters: &[u8] = &[65; 66];
-    let none: &[u8] = &[];
-    let cases: [(u8, [&[u8]; 7], Seen); 18] = [
-        (
-            b'D',
-            [zero, none, none, none, none, none, none],
-            Seen::Whole(41),
-        ),
-        (b'D', [zero, b"\0", none, none, none, none, none], Seen::Bad),
-        (
-            b'D',
-            [&zero[..3], none, none, none, none, none, none],
-            Seen::Bad,
-        ),
-        (b'E', [zero, none, none, none, none, none, none], Seen::Bad),
-        (b'I', [zero, none, none, none, none, none, none], Seen::Bad),
-        (
-            b'I',
-            [a, zero, zero, zero, none, none, none],
-            Seen::Whole(51),
-        ),
-        (b'D', [a, zero, zero, zero, none, none, none], Seen::Bad),
-        (b'I', [a, zero, zero, zero, b"\0", none, none], Seen::Bad),
-        (b'I', [b"\0", zero, zero, zero, none, none, none], Seen::Bad),
-        (
-            b'I',
-            [b"\x01.", zero, zero, zero, none, none, none],
-            Seen::Bad,
-        ),
-        (
-            b'I',
-            [letters, zero, zero, zero, none, none, none],
-            Seen::Bad,
-        ),
-        (b'I', [a, zero, one, one, name, zero, none], Seen::Whole(87)),
-        (
-            b'I',
-            [a, zero, one, longest, name, zero, none],
-            Seen::Whole(87),
-        ),
-        (b'I', [a, zero, one, zero, name, zero, none], Seen::Bad),
-        (b'I', [a, zero, one, too_long, name, zero, none], Seen::Bad),
-        (b'I', [a, zero, many, one, name, zero, none], Seen::Bad),
-        (
-            b'I',
-            [a, zero, zero, one, many, none, none],
-            Seen::Whole(55),
-        ),
-        (b'I', [a, zero, zero, many, many, none, none], Seen::Bad),
+    let cases: [(u8, &[&[u8]], Seen); 18] = [
+        (b'D', &[zero], Seen::Whole(41)),
+        (b'D', &[zero, b"\0"], Seen::Bad),
+        (b'D', &[&zero[..3]], Seen::Bad),
+        (b'E', &[zero], Seen::Bad),
+        (b'I', &[zero], Seen::Bad),
+        (b'I', &[a, zero, zero, zero], Seen::Whole(51)),
+        (b'D', &[a, zero, zero, zero], Seen::Bad),
+        (b'I', &[a, zero, zero, zero, b"\0"], Seen::Bad),
+        (b'I', &[b"\0", zero, zero, zero], Seen::Bad),
+        (b'I', &[b"\x01.", zero, zero, zero], Seen::Bad),
+        (b'I', &[letters, zero, zero, zero], Seen::Bad),
+        (b'I', &[a, zero, one, one, name, zero], Seen::Whole(87)),
+        (b'I', &[a, zero, one, longest, name, zero], Seen::Whole(87)),
+        (b'I', &[a, zero, one, zero, name, zero], Seen::Bad),
+        (b'I', &[a, zero, one, too_long, name, zero], Seen::Bad),
+        (b'I', &[a, zero, many, one, name, zero], Seen::Bad),
+        (b'I', &[a, zero, zero, one, many], Seen::Whole(55)),
+        (b'I', &[a, zero, zero, many, many], Seen::Bad),
     ];
     for (kind, parts, want) in &cases {
         let bytes = sealed(alloc, *kind, parts)?;
@@ -151,19 +150,17 @@ fn bodies_in_the_grammar_and_not(rt: HostRuntime) -> Result<(), Fail> {
     Ok(())
 }
 
+// A body of noise under its own digest: the grammar alone refuses it.
 #[test]
-fn no_cut_and_no_changed_byte_is_whole(rt: HostRuntime) -> Result<(), Fail> {
+fn noise_under_its_digest_is_no_record(rt: HostRuntime) -> Result<(), Fail> {
     let alloc = rt.alloc();
-    let bytes = sealed(alloc, b'I', &[b"\x01a", &[0; 11], &[1], &[0; 4]])?;
-    assert_eq!(rt; answer(alloc, &bytes), Seen::Whole(55));
-    for i in 0..bytes.len() {
-        let front = bytes.as_slice().get(..i).ok_or("a front")?;
-        assert_eq!(rt; answer(alloc, front), Seen::Short);
-        let mut changed = bytes.clone()?;
-        if let Some(byte) = changed.get_mut(i) {
-            *byte ^= 0x10;
-        }
-        assert!(rt; answer(alloc, &changed) != Seen::Whole(55));
+    let mut noise = Vec::new(alloc);
+    let mut state = 1u32;
+    for _ in 0..200 {
+        state = state.wrapping_mul(1_664_525).wrapping_add(1_013_904_223);
+        noise.push(state.to_be_bytes()[0])?;
+        let bytes = sealed(alloc, b'I', &[&noise])?;
+        assert_eq!(rt; answer(alloc, &bytes), Seen::Bad);
     }
     assert_eq!(rt; answer(alloc, &[0xFF; 200]), Seen::Short);
     assert_eq!(rt; answer(alloc, &[0; 200]), Seen::Bad);

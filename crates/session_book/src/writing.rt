@@ -63,6 +63,7 @@ pub fn ingest_len(entry: &IngestRecord) -> u32
     requires { IsInLimits entry.now }
     ensures spelled { result ≡ length (spelling_of (Record.Ingest entry.now)) }
     ensures small { result + DROP_LEN ≤ 2 ^ 30 }
+    ensures lawful { IsIngest entry.now }
 {
     AROUND_BODY + body_len(entry)
 }
@@ -95,7 +96,7 @@ fn chunks_len(chunks: &[NewChunk]) -> usize
     size
 }
 
-// Numbers are below the limit of their type. It does nothing.
+// Numbers are below the limit of their type: the grammar asks it, and the prover knows it of numbers that a call is given.
 fn numbers_fit(length: u32, entries: &[u32])
     ensures one { length < 2 ^ 32 }
     ensures each { All (λ n. n < 2 ^ 32) entries.now }

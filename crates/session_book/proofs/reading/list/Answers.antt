@@ -5,7 +5,7 @@ use Rattle.session_book.proofs.reading.list.Goals as goal
 
 pub returns-in_err-item : goal.returns-in_err-item
 returns-in_err-item g c =
-    let p = err_from_is_err_and c.from_residual-in_err-item.result c.from_residual-in_err-item.ensures.1 in
+    let p = err_from_is_err_and c.from_residual.result c.from_residual.ensures.1 in
     rw (p.1, p.2) (ends c.in_err-item.field-0.0 g.T.Item.at c.items.list.items c.args.count c.items.counter c.items.rest.now (list_at g.T.Item.at c.args.count c.args.bytes.now) c.items-test.true c.in_err-item.ensures c.items.invariant)
 
 pub items-preserved : goal.items-preserved

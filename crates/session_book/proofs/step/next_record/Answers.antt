@@ -1,15 +1,18 @@
 use Rattle.std.proofs.Common.{arith}
-use Rattle.session_book.proofs.Steps.{whole_if_ok, short_if_ok, bad_if_ok, again_if_ok}
+use Rattle.session_book.proofs.Steps.{whole_if_ok, short_if_ok, bad_if_ok, again_if_ok, short_is_no_parts}
 use Rattle.session_book.proofs.step.next_record.Goals as goal
 
 pub returns-clause-whole : goal.returns-clause-whole
-returns-clause-whole c = whole_if_ok c.args.bytes.now c.front_step.result (λ i. omega (arith, c.type_inv.bytes i)) c.front_step.ensures
+returns-clause-whole c = whole_if_ok c.args.bytes.now c.front_step.result (λ i. omega (arith, c.type_inv.bytes i)) c.front_step.ensures.step
 
 pub returns-clause-short : goal.returns-clause-short
-returns-clause-short c = short_if_ok c.args.bytes.now c.front_step.result (λ i. omega (arith, c.type_inv.bytes i)) c.front_step.ensures
+returns-clause-short c = short_if_ok c.args.bytes.now c.front_step.result (λ i. omega (arith, c.type_inv.bytes i)) c.front_step.ensures.step
 
 pub returns-clause-bad : goal.returns-clause-bad
-returns-clause-bad c = bad_if_ok c.args.bytes.now c.front_step.result (λ i. omega (arith, c.type_inv.bytes i)) c.front_step.ensures
+returns-clause-bad c = bad_if_ok c.args.bytes.now c.front_step.result (λ i. omega (arith, c.type_inv.bytes i)) c.front_step.ensures.step
 
 pub returns-clause-again : goal.returns-clause-again
-returns-clause-again c = again_if_ok c.args.bytes.now c.front_step.result c.front_step.ensures
+returns-clause-again c = again_if_ok c.args.bytes.now c.front_step.result c.front_step.ensures.step
+
+pub returns-clause-at_once : goal.returns-clause-at_once
+returns-clause-at_once c = λ short. c.front_step.ensures.at_once ((short_is_no_parts c.args.bytes.now (λ i. omega (arith, c.type_inv.bytes i))).1 short)

@@ -27,8 +27,8 @@ invariant_of-self c =
       short = omega (arith, count, alive, c.self.invariant.short);
     }
 
-pub returns : goal.returns
-returns c =
+pub returns-clause-dropped : goal.returns-clause-dropped
+returns-clause-dropped c =
     let old = c.self.inside.sessions.items in
     let marked : c.mark_dropped.new.sessions.items ≡ without c.args.session old = c.mark_dropped.ensures in
     let made : List Session → ℕ → BookState = λ sessions n. record { sessions = sessions; used = c.self.inside.used + n; max = c.self.inside.max } in

@@ -1,6 +1,6 @@
 use Rattle.std.proofs.Common.{◌≡◌, [], length, take, drop}
 use Rattle.sd_base.specs.Books.{chunks_in, recipe_damage}
-use Rattle.session_book.proofs.recipes.first_flaw.Given as goal
+use Rattle.session_book.proofs.recipes.first_damage.Given as goal
 
 abbrev pub invariant-loop-k : goal.invariant-loop-k
 invariant-loop-k l = record {

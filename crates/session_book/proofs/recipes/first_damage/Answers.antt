@@ -1,6 +1,6 @@
 use Rattle.std.proofs.Common.{arith, sym, ◌∙◌}
 use Rattle.session_book.proofs.Flaws.{IsAt, count_more, count_within, front_len, flaw_found, flaw_none}
-use Rattle.session_book.proofs.recipes.first_flaw.Goals as goal
+use Rattle.session_book.proofs.recipes.first_damage.Goals as goal
 
 pub overflow_add-count : goal.overflow_add-count
 overflow_add-count c =
