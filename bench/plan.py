@@ -35,6 +35,11 @@ def write_random(path, size):
             file.write(random.randbytes(min(PIECE, size - start)))
 
 
+def write_zeros(path, size):
+    with open(path, "wb") as file:
+        file.truncate(size)
+
+
 def write_tar(path, size):
     words = ["tar", "--sort=name", "-cf", "-", "-C", "/usr", "share"]
     with Popen(words, stdout=PIPE, stderr=DEVNULL) as tar, open(path, "wb") as file:
@@ -91,7 +96,7 @@ def main():
     given = parser.parse_args()
     if not os.access(PROGRAM, os.X_OK):
         sys.exit(f"{PROGRAM} is not there or cannot be run: rt ci builds it")
-    inputs = {"random bytes": write_random}
+    inputs = {"random bytes": write_random, "zeros": write_zeros}
     if shutil.which("tar"):
         inputs["tar of /usr/share"] = write_tar
     print("| Input | MB | Program | MB/s | Time beside sha256sum | Peak memory, MB |")
