@@ -1,5 +1,3 @@
-mod Candidates
-mod Maps
 mod Passes
 mod KeysFlaws
 mod KeysNumbers

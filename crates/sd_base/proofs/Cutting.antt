@@ -1,8 +1,12 @@
 -- Cuts one at a time: what the next cut is, and what a list of cuts is from one of them on.
 use Rattle.std.proofs.Common.{◌≡◌, ◌⊎◌, inl, inr, ℕ, zero, suc, ◌+◌, ◌-◌, ◌<◌, ◌≤◌, min, Bool, true, false, unwrap_or, find, List, [], ◌∷◌, ◌++◌, length, slice_range, refl, sym, ap, ◌∙◌, append_assoc, append-nil, le_antisymm, arith}
-use Rattle.std.proofs.lemmas.Bool.{cases_Bool, lt-ltb, le-ltb, cases_lt}
-use Rattle.sd_base.specs.Cutting.{is_candidate, furthest, count_up, next_cut, IsNextCut, cuts_within, cuts_of, parts, chunks_of}
+use Rattle.std.proofs.lemmas.Bool.{cases_Bool, lt-ltb, le-ltb, le-leb, cases_lt}
+use Rattle.sd_base.specs.Cutting.{is_match, is_candidate, furthest, count_up, next_cut, IsNextCut, cuts_within, cuts_of, parts, chunks_of}
 use Rattle.sd_base.specs.declared.raw_params.RawParams.{RawParams}
+
+-- a position with a whole window before it is a candidate where the window is a match
+pub is_candidate_here : (params : RawParams) (input : List ℕ) (p : ℕ) → 48 ≤ p → p ≤ length input → is_candidate params input p ≡ is_match params (slice_range input (p - 48) p)
+is_candidate_here params input p window within = rw (le-leb 48 p window, le-leb p (length input) within)
 
 -- a search of the numbers from low on stops at no number above one that passes
 find_least : (p : ℕ → Bool) (low n d q : ℕ) → p q ≡ true → low ≤ q → q < low + n → unwrap_or (find p (count_up low n)) d ≤ q

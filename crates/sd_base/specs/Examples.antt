@@ -1,7 +1,7 @@
 -- Worked examples of the definitions, each computed by the checker. What they answer is known apart from them: under
 -- t^63 + 1 a power of t is that of its exponent modulo 63, the fingerprint under the default polynomial was worked out by
 -- long division, and the name of `abc` is an example of FIPS 180-4.
-use Rattle.std.specs.Prelude.{◌≡◌, ℕ, List, [], ◌∷◌, ◌++◌, replicate, take, codes, true, false, Some, None, Ok}
+use Rattle.std.specs.Prelude.{◌≡◌, ℕ, ◌^◌, List, [], ◌∷◌, ◌++◌, replicate, take, codes, true, false, Some, None, Ok}
 use Rattle.std.specs.Int.Count.{count_leading_zeros}
 use Rattle.std.specs.Fmt.{digits}
 use Rattle.std.proofs.Common.{refl, lit<, lit≤}
@@ -18,7 +18,7 @@ use Rattle.sd_base.specs.Books.{sessions_of, places_in, live_session, recipe_fla
 use Rattle.sd_base.specs.Texts.{plan_text}
 use Rattle.sd_base.specs.OnePass.{one_pass}
 use Rattle.sd_base.specs.declared.raw_params.RawParams.{RawParams}
-use Rattle.sd_base.specs.declared.limits.TheConstants.{DEFAULT_POLYNOMIAL, DEFAULT_BITS, DEFAULT_TARGET, DEFAULT_MIN, DEFAULT_MAX, DEFAULT_WORKERS, DEFAULT_SEGMENT}
+use Rattle.sd_base.specs.declared.limits.TheConstants.{MAX_INPUT, MAX_CHUNKS, MAX_PLACES, MAX_SESSIONS, MAX_CONTAINER, CONTAINER_HEADER, LARGEST_MAX, DEFAULT_POLYNOMIAL, DEFAULT_BITS, DEFAULT_TARGET, DEFAULT_MIN, DEFAULT_MAX, DEFAULT_WORKERS, DEFAULT_SEGMENT}
 use Rattle.sd_base.specs.declared.name.BadName.TheVariants.{Length, Letter}
 use Rattle.sd_base.specs.declared.params.BadParams.TheVariants.{Bits}
 use Rattle.sd_base.specs.declared.words.BadKind.TheVariants.{Missing, Command as NoCommand, Key as NoKey, Twice, Value}
@@ -44,6 +44,28 @@ IsValid-default_params = record {
 pub default_plan-of_the_constants : default_plan ≡ Quiet (Plan (record { polynomial = DEFAULT_POLYNOMIAL; bits = DEFAULT_BITS; target = DEFAULT_TARGET; min = DEFAULT_MIN; max = DEFAULT_MAX }) DEFAULT_WORKERS DEFAULT_SEGMENT)
 default_plan-of_the_constants = refl
 
+-- the limits
+pub MAX_INPUT-is : MAX_INPUT ≡ 2 ^ 28
+MAX_INPUT-is = refl
+
+pub MAX_CHUNKS-is : MAX_CHUNKS ≡ 2 ^ 22
+MAX_CHUNKS-is = refl
+
+pub MAX_PLACES-is : MAX_PLACES ≡ 2 ^ 24
+MAX_PLACES-is = refl
+
+pub MAX_SESSIONS-is : MAX_SESSIONS ≡ 4096
+MAX_SESSIONS-is = refl
+
+pub MAX_CONTAINER-is : MAX_CONTAINER ≡ 4194304
+MAX_CONTAINER-is = refl
+
+pub CONTAINER_HEADER-is : CONTAINER_HEADER ≡ 8
+CONTAINER_HEADER-is = refl
+
+pub LARGEST_MAX-is : LARGEST_MAX ≡ 1048576
+LARGEST_MAX-is = refl
+
 -- t^63 + 1
 abbrev pub sparse : ℕ
 sparse = 0x8000000000000001
@@ -59,6 +81,16 @@ fingerprint-of_first_byte_one = refl
 pub fingerprint-of_all_ones : fingerprint sparse (replicate 48 255) ≡ 63
 unfolding count_leading_zeros
 fingerprint-of_all_ones = refl
+
+-- one byte later the window of the byte 1 has moved on
+pub fingerprint-of_byte_one_and_a_zero : fingerprint sparse (replicate 46 0 ++ 1 ∷ 0 ∷ []) ≡ 256
+unfolding count_leading_zeros
+fingerprint-of_byte_one_and_a_zero = refl
+
+-- the least degree: modulo t^16 + 1 the power 376 is 8
+pub fingerprint-of_degree_16 : fingerprint 0x10001 (1 ∷ replicate 47 0) ≡ 256
+unfolding count_leading_zeros
+fingerprint-of_degree_16 = refl
 
 pub remainder-of_384_ones : remainder sparse (replicate 384 1) ≡ 63
 unfolding count_leading_zeros
@@ -87,6 +119,22 @@ cuts_of-candidate_at_the_minimum = refl
 pub cuts_of-candidate_below_the_minimum : cuts_of (small_params 1) (replicate 62 0 ++ 1 ∷ replicate 2 0) ≡ 65 ∷ []
 unfolding count_leading_zeros next_cut cuts_within
 cuts_of-candidate_below_the_minimum = refl
+
+-- chunks of 48 to 50 bytes: the maximum is a cut where no candidate comes before it
+abbrev short_params : RawParams
+short_params = record { polynomial = sparse; bits = 13; target = 1; min = 48; max = 50 }
+
+pub cuts_of-no_candidate : cuts_of short_params (replicate 60 0) ≡ 50 ∷ 60 ∷ []
+unfolding count_leading_zeros next_cut cuts_within
+cuts_of-no_candidate = refl
+
+pub cuts_of-candidate_at_the_maximum : cuts_of short_params (replicate 49 0 ++ 1 ∷ replicate 10 0) ≡ 50 ∷ 60 ∷ []
+unfolding count_leading_zeros next_cut cuts_within
+cuts_of-candidate_at_the_maximum = refl
+
+pub cuts_of-candidate_past_the_maximum : cuts_of short_params (replicate 50 0 ++ 1 ∷ replicate 9 0) ≡ 50 ∷ 60 ∷ []
+unfolding count_leading_zeros next_cut cuts_within
+cuts_of-candidate_past_the_maximum = refl
 
 -- the byte 4 at the start of a window is t^378, which is 1 as well: the first byte of a window counts
 pub cuts_of-window_of_48_bytes : cuts_of (small_params 1) (replicate 16 0 ++ 4 ∷ replicate 60 0) ≡ 64 ∷ 77 ∷ []

@@ -2,14 +2,11 @@
 use Rattle.std.proofs.Common.{◌≡◌, ℕ, ◌+◌, ◌-◌, ◌%◌, ◌^◌, ◌<◌, ◌≤◌, Bool, true, false, ◌||◌, ◌&&◌, List, eqb, ltb, leb, length, slice_range, refl, sym, ap, ◌∙◌, inl, inr, ◌≢◌, ◌⊎◌, eq-eqb, ne_eqb, arith}
 use Rattle.std.proofs.lemmas.Bool.{cases_lt, cases_eq, lt-ltb, le-ltb, le-leb, lt-leb}
 use Rattle.candidate_map.specs.Positions.{has}
-use Rattle.sd_base.specs.Cutting.{is_candidate, is_match}
+use Rattle.sd_base.specs.Cutting.{is_candidate}
 use Rattle.sd_base.specs.Polynomial.{fingerprint}
+use Rattle.sd_base.proofs.Cutting.{is_candidate_here}
 use Rattle.sd_base.specs.declared.raw_params.RawParams.{RawParams}
 use Rattle.segment_scan.specs.Scan.{is_candidate_within, AddsCandidates}
-
--- a position with a whole window before it is a candidate where the window is a match
-pub is_candidate_here : (params : RawParams) (text : List ℕ) (p : ℕ) → 48 ≤ p → p ≤ length text → is_candidate params text p ≡ is_match params (slice_range text (p - 48) p)
-is_candidate_here params text p window within = rw (le-leb 48 p window, le-leb p (length text) within)
 
 -- a position with no whole window before it is none
 early : (params : RawParams) (text : List ℕ) (p : ℕ) → p < 48 → is_candidate params text p ≡ false

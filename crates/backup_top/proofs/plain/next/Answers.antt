@@ -3,7 +3,7 @@ use Rattle.std.proofs.lemmas.Bool.{cases_lt}
 use Rattle.sd_base.specs.Cutting.{is_candidate, is_match}
 use Rattle.sd_base.specs.Params.{numbers_of}
 use Rattle.sd_base.proofs.Cutting.{next_cut_is}
-use Rattle.backup_top.proofs.Candidates.{is_candidate_here}
+use Rattle.sd_base.proofs.Cutting.{is_candidate_here}
 use Rattle.backup_top.proofs.plain.next.Goals as goal
 
 pub loop-position-init : goal.loop-position-init
