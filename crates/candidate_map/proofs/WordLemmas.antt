@@ -1,5 +1,5 @@
 -- Words of 64 bits and the set of positions that they keep.
-use Rattle.std.proofs.Common.{◌≡◌, ℕ, ◌+◌, ◌-◌, ◌*◌, ◌/◌, ◌%◌, ◌^◌, ◌<◌, ◌≤◌, Bool, true, false, List, eqb, length, get_or, set, replicate, map, sym, ap, ◌∙◌, inl, inr, arith, eq-eqb, w64}
+use Rattle.std.proofs.Common.{◌≡◌, ℕ, ◌+◌, ◌-◌, ◌*◌, ◌/◌, ◌%◌, ◌^◌, ◌<◌, ◌≤◌, min, Bool, true, false, List, eqb, length, get_or, set, replicate, map, sym, ap, ◌∙◌, inl, inr, arith, eq-eqb, w64}
 use Rattle.std.specs.Prelude.{bit_and, bit_or}
 use Rattle.std.specs.Int.{bit_at, trailing_zeros}
 use Rattle.std.specs.List.{range_with_len}
@@ -8,7 +8,7 @@ use Rattle.std.proofs.lemmas.List.{get_or-set_same, get_or-set_other, get_or_pas
 use Rattle.std.proofs.lemmas.List.FromFn.{length-map-range_with_len, get_or-map-range_with_len, fill_by_all}
 use Rattle.std.proofs.lemmas.Nat.{shr-shr, shr_le}
 use Rattle.std.proofs.lemmas.Nat.Bits.{shr_and_one, bit_at-zero, bit_at-trailing_zeros, bit_at_set_same, bit_at_set_other, bit_at_above}
-use Rattle.candidate_map.specs.Positions.{has, NoneFrom, IsFirstFrom}
+use Rattle.candidate_map.specs.Positions.{has, Has, IsFirstFrom}
 use Rattle.candidate_map.specs.Words.{is_set, positions_of, HoldsBits, IsLowestFrom}
 
 pub length-positions_of : (words : List ℕ) (bits : ℕ) → length (positions_of words bits) ≡ bits
@@ -162,9 +162,9 @@ module _ (words : List ℕ) (p index from : ℕ) (before : (q : ℕ) → p ≤ q
             ap (λ i. eqb (bit_at (get_or words i 0) (q % 64)) 1) word ∙ ap (λ x. eqb x 1) (none (q % 64) (omega arith))
       ]
 
-  -- past the last word the set has nothing more
-  pub none_left : (bits : ℕ) → HoldsBits words bits → length words ≤ index → NoneFrom (positions_of words bits) p
-  none_left bits ok end q low member =
+  -- past the last word, or the last that is looked at, the set has nothing more
+  pub none_left : (bits end : ℕ) → HoldsBits words bits → min end (length words) ≤ index → (q : ℕ) → p ≤ q → q < 64 * end → ¬ Has (positions_of words bits) q
+  none_left bits end ok past_end q low high member =
       let set : is_set words q ≡ true = sym (has-positions_of words bits q ok) ∙ member in
       elim (cases_lt q (64 * index + from)) [
         | inl passed ↦ false≢true (sym (before q low passed) ∙ set)

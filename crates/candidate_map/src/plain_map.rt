@@ -1,6 +1,6 @@
-ghost use Rattle.std.specs.Prelude.{◌≡◌, ℕ, ◌<◌, ◌≤◌, ◌↔◌, true, false, length, replicate, slice_set, IfOk, IfSome, IfNone, IsNone};
+ghost use Rattle.std.specs.Prelude.{◌≡◌, ℕ, ◌*◌, ◌<◌, ◌≤◌, ◌↔◌, true, false, length, replicate, slice_set, IfOk, IfSome, IfNone, IsNone};
 ghost use Rattle.std.specs.Int.{bit_at};
-ghost use Rattle.candidate_map.specs.Positions.{has, IsFirstFrom, NoneFrom};
+ghost use Rattle.candidate_map.specs.Positions.{has, Has, IsFirstFrom, NoneFrom};
 ghost use Rattle.candidate_map.specs.Words.{positions_of, HoldsBits, IsLowestFrom};
 
 use sd_base::OutOfMemory;
@@ -67,8 +67,28 @@ impl PlainMap {
         ensures first { IfSome result (IsFirstFrom self.now p) }
         ensures none { IsNone result ↔ NoneFrom self.now p }
     {
+        self.next_within(p, self.bits)
+    }
+
+    /// The same, where it is not above `last`, which may be any number. It looks at no word behind that of `last`.
+    pub fn next_within(&self, p: u32, last: u32) -> Option<u32>
+        ensures first { IfSome result (IsFirstFrom self.now p) }
+        ensures within { IfSome result (λ first. first ≤ last) }
+        ensures none { IsNone result ↔ ((q : ℕ) → p ≤ q → q ≤ last → ¬ Has self.now q) }
+    {
+        match self.next_in_words(p, (last / WORD_BITS) as usize + 1) {
+            Some(first) if first <= last => Some(first),
+            _ => None,
+        }
+    }
+
+    /// The same, where it is in one of the first words.
+    fn next_in_words(&self, p: u32, words: usize) -> Option<u32>
+        ensures first { IfSome result (IsFirstFrom self.now p) }
+        ensures none { IfNone result ((q : ℕ) → p ≤ q → q < 64 * words → ¬ Has self.now q) }
+    {
         let mut from = p % WORD_BITS;
-        for index in (p / WORD_BITS) as usize..self.words.len() {
+        for index in (p / WORD_BITS) as usize..words.min(self.words.len()) {
             if let Some(bit) = lowest_from(self.words[index], from) {
                 return Some(index as u32 * WORD_BITS + bit);
             }

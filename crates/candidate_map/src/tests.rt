@@ -22,6 +22,25 @@ fn one_position_of_301(rt: HostRuntime) -> Result<(), Fail> {
 }
 
 #[test]
+fn one_position_up_to_a_last(rt: HostRuntime) -> Result<(), Fail> {
+    let mut map = PlainMap::new(rt.alloc(), 301)?;
+    assert!(rt; 100 < map.bits());
+    map.set(100);
+    for (from, last, next) in [
+        (0, 99, None),
+        (0, 100, Some(100)),
+        (0, u32::MAX, Some(100)),
+        (100, 100, Some(100)),
+        (101, 300, None),
+        (101, 100, None),
+        (u32::MAX, 0, None),
+    ] {
+        assert_eq!(rt; map.next_within(from, last), next, "from {from} to {last}");
+    }
+    Ok(())
+}
+
+#[test]
 fn positions_at_the_edges_of_words(rt: HostRuntime) -> Result<(), Fail> {
     let mut map = PlainMap::new(rt.alloc(), 301)?;
     for p in [63, 64, 127, 300] {

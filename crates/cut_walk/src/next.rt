@@ -54,6 +54,7 @@ fn first_end(map: &PlainMap, params: &Params, start: u32, furthest: u32) -> Opti
     ensures within { IfSome result (λ p. p ≤ furthest) }
     ensures none { IfNone result ((p : ℕ) → start + params.now.min ≤ p → p ≤ furthest → ¬ Has map.now p) }
 {
+    // Where the sum passes `u32` there is no such position.
     let earliest = start.checked_add(params.min)?;
-    map.next_from(earliest).filter(|p| *p <= furthest)
+    map.next_within(earliest, furthest)
 }

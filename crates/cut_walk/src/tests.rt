@@ -8,9 +8,10 @@ use std::test::Fail;
 fn map_of(alloc: Global, positions: &[u32]) -> Result<PlainMap, Fail> {
     let mut map = PlainMap::new(alloc, 301)?;
     for p in positions {
-        if *p < map.bits() {
-            map.set(*p);
+        if *p >= map.bits() {
+            return Err("the text has no such position".into());
         }
+        map.set(*p);
     }
     Ok(map)
 }
@@ -49,6 +50,19 @@ fn next_cuts(rt: HostRuntime) -> Result<(), Fail> {
         let found = next_cut(&map, &params, start, known, at_end);
         assert_eq!(rt; found, want, "position {p}, from {start} to {known}");
     }
+    Ok(())
+}
+
+#[test]
+fn all_chunks_of_one_length(rt: HostRuntime) -> Result<(), Fail> {
+    let params = Params::new(0x8000_0000_0000_0001, 13, 1, 64, 64)?;
+    let map = map_of(rt.alloc(), [50, 64, 100].as_slice())?;
+    assert!(rt; 64 < map.bits());
+    assert_eq!(rt; next_cut(&map, &params, 0, 63, false), None);
+    assert_eq!(rt; next_cut(&map, &params, 0, 64, false), Some(64));
+    assert!(rt; 140 < map.bits());
+    let all = cuts_from(rt.alloc(), &map, &params, 0, 140, true)?;
+    assert_eq!(rt; all.as_slice(), [64, 128, 140].as_slice());
     Ok(())
 }
 

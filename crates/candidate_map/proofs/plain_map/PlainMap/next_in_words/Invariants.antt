@@ -1,6 +1,6 @@
 use Rattle.std.proofs.Common.{◌≡◌, ℕ, ◌+◌, ◌*◌, ◌<◌, ◌≤◌, false}
 use Rattle.candidate_map.specs.Words.{is_set}
-use Rattle.candidate_map.proofs.plain_map.PlainMap.next_from.Given as goal
+use Rattle.candidate_map.proofs.plain_map.PlainMap.next_in_words.Given as goal
 
 -- from position p up to the place that comes next, nothing is set
 abbrev pub invariant-loop-index : goal.invariant-loop-index
