@@ -1,3 +1,4 @@
 mod Adding
 mod Halves
 mod Windows
+mod Maps

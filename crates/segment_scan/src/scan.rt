@@ -1,4 +1,5 @@
-ghost use Rattle.std.specs.Prelude.{◌≡◌, ℕ, ◌+◌, ◌-◌, ◌%◌, ◌^◌, ◌<◌, ◌≤◌, ◌==◌, ◌&&◌, ◌||◌, length};
+ghost use Rattle.std.specs.Prelude.{◌≡◌, ℕ, ◌+◌, ◌-◌, ◌%◌, ◌^◌, ◌<◌, ◌≤◌, ◌==◌, ◌&&◌, ◌||◌, ◌++◌, false, List, length, replicate};
+ghost use Rattle.candidate_map.specs.Candidates.{HoldsCandidates};
 ghost use Rattle.candidate_map.specs.Positions.{has};
 ghost use Rattle.sd_base.specs.Params.{numbers_of};
 ghost use Rattle.segment_scan.specs.Scan.{AddsCandidates};
@@ -19,6 +20,21 @@ pub fn scan_range(
     to: u32,
     map: &mut PlainMap,
 )
+    requires same_polynomial { tables.now.polynomial ≡ params.now.polynomial }
+    requires ordered { from ≤ to }
+    requires inside { to ≤ length text.now }
+    requires mapped { length map.old ≡ length text.now + 1 }
+    ensures added { AddsCandidates (numbers_of params.now) text.now from to map.old map.new }
+
+    // A map that was empty has the candidates of the text, and of every longer one, up to `to`.
+    ensures from_empty { (bits : ℕ) (rest : List ℕ) → map.old ≡ replicate bits false → from ≡ 0
+        → HoldsCandidates (numbers_of params.now) (text.now ++ rest) map.new to }
+{
+    scan_text(tables, params, text, from, to, map);
+}
+
+// The same by the text alone.
+fn scan_text(tables: &Tables, params: &Params, text: &[u8], from: u32, to: u32, map: &mut PlainMap)
     requires same_polynomial { tables.now.polynomial ≡ params.now.polynomial }
     requires ordered { from ≤ to }
     requires inside { to ≤ length text.now }

@@ -1,0 +1,28 @@
+use Rattle.std.proofs.Common.{◌-◌, ◌%◌, ◌≤◌, ◌<◌, ◌⊎◌, inl, inr, arith}
+use Rattle.std.proofs.lemmas.Bool.{cases_lt}
+use Rattle.sd_base.specs.Params.{numbers_of}
+use Rattle.segment_scan.proofs.Adding.{adds_none}
+use Rattle.segment_scan.proofs.Halves.{adds_joined}
+use Rattle.segment_scan.proofs.scan.scan_text.Goals as goal
+
+pub returns-then-from-to : goal.returns-then-from-to
+returns-then-from-to c =
+    let no_room : (c.args.to ≤ c.args.from) ⊎ (c.args.to < 48) = elim c.then-from-to.either [ inl empty ↦ inl empty | inr early ↦ inr early.1 ] in
+    adds_none (numbers_of c.args.params.now) c.args.text.now c.args.from c.args.to c.args.map.now no_room
+
+pub returns : goal.returns
+returns c =
+    let params = numbers_of c.args.params.now in
+    let text = c.args.text.now in
+    let from = c.args.from in
+    let to = c.args.to in
+    let first = c.max-first.result in
+    let even_end = to - (to - first) % 2 in
+    let start = c.args.map.now in
+    let no_room : (first - 1 ≤ from) ⊎ (first - 1 < 48) = elim (cases_lt from 48) [ inl low ↦ inr (omega arith) | inr high ↦ inl (omega arith) ] in
+    let upto_first = adds_joined params text from (first - 1) (first - 1) first start start c.scan_one.new.map (omega arith) (omega arith) (omega arith)
+    (adds_none params text from (first - 1) start no_room) c.scan_one.ensures in
+    let upto_even = adds_joined params text from first first even_end start c.scan_one.new.map c.scan_side_by_side.new.map (omega arith) (omega arith) (omega arith)
+    upto_first c.scan_side_by_side.ensures in
+    adds_joined params text from (to - 1) even_end to start c.scan_side_by_side.new.map c.scan_one-2.new.map (omega arith) (omega arith) (omega arith)
+    upto_even c.scan_one-2.ensures
