@@ -65,6 +65,7 @@ impl Window {
     pub fn value(&self) -> u64
         ensures fingerprint { result ≡ fingerprint self.now.polynomial self.now.bytes }
         ensures reduced { result < 2 ^ degree self.now.polynomial }
+        ensures whole { length self.now.bytes ≡ 48 }
     {
         self.value
     }
