@@ -156,6 +156,14 @@ module _ (was entries : List Entry) (same : SameEntries was entries) (file : Fil
 pub SameEntries-itself : (entries : List Entry) → SameEntries entries entries
 SameEntries-itself entries = record { bytes = λ f. refl; loose = λ f. refl }
 
+-- where only one file may have changed and has its old bytes, no bytes have changed
+pub bytes_in-kept : (was entries : List Entry) (file : File) → bytes_in entries file ≡ bytes_in was file → ChangesEntry file was entries
+    → (f : File) → bytes_in entries f ≡ bytes_in was f
+bytes_in-kept was entries file same others f = elim (is_same_file-tells f file) [
+  | inl is ↦ subst (λ (g : File). bytes_in entries g ≡ bytes_in was g) (sym is.1) same
+  | inr other ↦ others.bytes f other.1
+]
+
 pub on_err : {T E P : Type 0} (r : Result T E) → P → OnErr r P
 on_err (Ok x) p = tt
 on_err (Err e) p = p

@@ -18,8 +18,10 @@ pub record CountsFault (before after : ℕ) : Type 0 where
   pub rose : Rose before after
   pub never_falls : before ≤ after
 
--- one fault more is counted exactly where the call answered `Failed`
+-- One fault more is counted exactly where the call answered `Failed`, and the count is never at the number where it would
+-- stay: so `Rose` says there that it is greater.
 pub record CountsFailed {T : Type 0} (result : Result T EdgeFault) (before after : ℕ) : Type 0 where
   pub failed : IsErrOf result Failed → after ≡ before + 1
   pub out_of_memory : IsErrOf result OutOfMemory → after ≡ before
   pub ok : OnOk result (after ≡ before)
+  pub small : after < 2 ^ 64 - 1

@@ -63,10 +63,25 @@ pub(crate) fn cut(
     ensures loose { OnOk result (loose_in entries.new.items file ≡ true) }
     ensures others { OnOk result (ChangesEntry file entries.old.items entries.new.items) }
     ensures refused { OnErr result (SameEntries entries.old.items entries.new.items) }
+    ensures takes_none { OnErr result (bytes_in entries.old.items file ≡ []) }
 {
     let place = make_place(alloc, entries, file)?;
     let entry = &mut entries[place];
     entry.bytes.truncate(size);
+    entry.is_loose = true;
+    Ok(())
+}
+
+/// Makes a file loose, and changes none of its bytes.
+pub(crate) fn loosen(alloc: Global, entries: &mut Vec<Entry>, file: File) -> Result<(), OutOfMemory>
+    ensures bytes { OnOk result (bytes_in entries.new.items file ≡ bytes_in entries.old.items file) }
+    ensures loose { OnOk result (loose_in entries.new.items file ≡ true) }
+    ensures others { OnOk result (ChangesEntry file entries.old.items entries.new.items) }
+    ensures refused { OnErr result (SameEntries entries.old.items entries.new.items) }
+    ensures takes_none { OnErr result (bytes_in entries.old.items file ≡ []) }
+{
+    let place = make_place(alloc, entries, file)?;
+    let entry = &mut entries[place];
     entry.is_loose = true;
     Ok(())
 }
@@ -92,10 +107,10 @@ pub(crate) fn put(
 }
 
 /// Takes a file out of the loose ones.
-pub(crate) fn flush(entries: &mut Vec<Entry>, file: File)
-    ensures bytes { bytes_in entries.new.items file ≡ bytes_in entries.old.items file }
-    ensures loose { loose_in entries.new.items file ≡ false }
-    ensures others { ChangesEntry file entries.old.items entries.new.items }
+pub(crate) fn flush(entries: &mut [Entry], file: File)
+    ensures bytes { (f : File) → bytes_in entries.new f ≡ bytes_in entries.old f }
+    ensures loose { loose_in entries.new file ≡ false }
+    ensures other_loose { (f : File) → f ≢ file → loose_in entries.new f ≡ loose_in entries.old f }
 {
     if let Some(place) = place_of(entries, file) {
         entries[place].is_loose = false;
@@ -106,6 +121,7 @@ pub(crate) fn flush(entries: &mut Vec<Entry>, file: File)
 fn make_place(alloc: Global, entries: &mut Vec<Entry>, file: File) -> Result<usize, OutOfMemory>
     ensures place { IfOk result (IsPlaceOf entries.new.items file) }
     ensures same { SameEntries entries.old.items entries.new.items }
+    ensures takes_none { OnErr result (bytes_in entries.old.items file ≡ []) }
 {
     if let Some(place) = place_of(entries, file) {
         return Ok(place);

@@ -89,7 +89,8 @@ impl Shelf for MemShelf {
 
     fn read_at(&mut self, file: File, at: u64, into: &mut [u8]) -> Result<usize, EdgeFault>
         ensures bound { IfOk result (λ k. k ≤ length into.new) }
-        ensures given { IfOk result (λ k. take k into.new ≡ take (length into.new) (drop at (files_of_shelf self.old file))) }
+        ensures given { IfOk result (λ k. take k into.new
+            ≡ take (length into.new) (drop at (files_of_shelf self.old file))) }
         ensures untouched { IsUntouched self.old self.new }
         ensures counted { IsCounted result self.old self.new }
         ensures only_fails { OnErr result (IsErrOf result EdgeFault.Failed) }
@@ -128,11 +129,12 @@ impl Shelf for MemShelf {
         ensures other_files { (f : File) → f ≢ file → files_of_shelf self.new f ≡ files_of_shelf self.old f }
         ensures other_loose { (f : File) → f ≢ file → loose_of_shelf self.new f ≡ loose_of_shelf self.old f }
         ensures out_of_memory { IsErrOf result EdgeFault.OutOfMemory → IsUntouched self.old self.new }
+        ensures takes_none { files_of_shelf self.old file ≢ [] → result ≢ Err EdgeFault.OutOfMemory }
         ensures counted { IsCounted result self.old self.new }
     {
         let kept = self.plan.kept();
         let done = if kept == Some(0) {
-            entries::append(self.alloc, &mut self.entries, file, &[])
+            entries::loosen(self.alloc, &mut self.entries, file)
         } else {
             entries::cut(self.alloc, &mut self.entries, file, length as usize)
         };

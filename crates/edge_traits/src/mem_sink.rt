@@ -47,7 +47,8 @@ impl Sink for MemSink {
 
     fn write(&mut self, bytes: &[u8]) -> Result<usize, EdgeFault>
         ensures whole { IfOk result (λ k. k ≡ length bytes.now) }
-        ensures written { written_of self.new ≡ (if is_ok result then written_of self.old ++ bytes.now else written_of self.old) }
+        ensures written { written_of self.new
+            ≡ (if is_ok result then written_of self.old ++ bytes.now else written_of self.old) }
 
         // Exactly the planned calls fail.
         ensures fails { IsErrOf result EdgeFault.Failed ↔ Contains (failing_writes self.old) (write_calls self.old) }

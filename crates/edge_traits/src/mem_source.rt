@@ -60,7 +60,8 @@ impl Source for MemSource {
         ensures unchanged { OnErr result (left_of self.new ≡ left_of self.old) }
 
         // Each read gives as much as there is, fits, and its size allows.
-        ensures count { IfOk result (λ k. k ≡ min (length (left_of self.old)) (most_given (sizes_of self.old) (length into.new))) }
+        ensures count { IfOk result (λ k.
+            k ≡ min (length (left_of self.old)) (most_given (sizes_of self.old) (length into.new))) }
         ensures used_size { OnOk result (sizes_of self.new ≡ drop 1 (sizes_of self.old)) }
         ensures kept_size { OnErr result (sizes_of self.new ≡ sizes_of self.old) }
 

@@ -66,7 +66,8 @@ pub fn read_all<R: Source>(alloc: Global, source: &mut R, limit: u32) -> Result<
     ensures fits { OnOk result (IfSome (R.left source.old) (λ told. length told ≤ limit)) }
 
     ensures source_fault { IsErrOf result ReadFault.SourceFault → Rose (R.faults source.old) (R.faults source.new) }
-    ensures too_long { IsErrOf result ReadFault.InputTooLong → IfSome (R.left source.old) (λ told. limit < length told) }
+    ensures too_long { IsErrOf result ReadFault.InputTooLong →
+        IfSome (R.left source.old) (λ told. limit < length told) }
     ensures too_long_left { IsErrOf result ReadFault.InputTooLong →
         R.left source.new ≡ option_map (λ told. drop (limit + 1) told) (R.left source.old) }
     ensures refused { OnErr result (LosesAtMost (limit + 1) (R.left source.old) (R.left source.new)) }
@@ -88,7 +89,8 @@ pub fn read_all<R: Source>(alloc: Global, source: &mut R, limit: u32) -> Result<
     Err(ReadFault::InputTooLong)
 }
 
-/// Makes the buffer longer, with zeros, where its first `taken` bytes fill it; never longer than `most`.
+/// Makes the buffer longer, with zeros, where its first `taken` bytes fill it; never longer than `most`. No room is asked
+/// for but for the bytes that it is made longer by.
 fn make_room(buffer: &mut Vec<u8>, taken: usize, most: usize) -> Result<(), AllocError>
     requires taken { taken ≤ vec_len buffer.old }
     requires within { vec_len buffer.old ≤ most }
@@ -103,7 +105,9 @@ fn make_room(buffer: &mut Vec<u8>, taken: usize, most: usize) -> Result<(), Allo
         return Ok(());
     }
     let step = len.clamp(LEAST_STEP, GREATEST_STEP);
-    buffer.resize(len.saturating_add(step).min(most), 0)
+    let longer = len.saturating_add(step).min(most);
+    buffer.reserve_exact(longer - len)?;
+    buffer.resize(longer, 0)
 }
 
 /// One read into what stands behind the first `taken` bytes of the buffer.
@@ -117,7 +121,8 @@ fn read_behind<R: Source>(
     ensures kept { take taken buffer.new.items ≡ take taken buffer.old.items }
 
     ensures bound { IfOk result (λ k. taken + k ≤ vec_len buffer.new) }
-    ensures given { IfOk result (λ k. Takes (R.left source.old) (R.left source.new) (take k (drop taken buffer.new.items))) }
+    ensures given { IfOk result (λ k.
+        Takes (R.left source.old) (R.left source.new) (take k (drop taken buffer.new.items))) }
     ensures end { result ≡ Ok 0 → IsAtEnd (R.left source.old) }
 
     ensures failed { IsErrOf result EdgeFault.Failed → Rose (R.faults source.old) (R.faults source.new) }

@@ -46,7 +46,8 @@ pub trait Shelf: Send {
     /// answers how many: 0 where `at` is at or past the end. Changes nothing.
     fn read_at(&mut self, file: File, at: u64, into: &mut [u8]) -> Result<usize, EdgeFault>
         ensures bound { IfOk result (λ k. k ≤ length into.new) }
-        ensures given { IfOk result (λ k. IsReadAt (content (files self.old) file) at (length into.new) (take k into.new)) }
+        ensures given { IfOk result (λ k.
+            IsReadAt (content (files self.old) file) at (length into.new) (take k into.new)) }
 
         ensures same_files { SameFiles (files self.old) (files self.new) }
         ensures same_loose { SameLoose (loose self.old) (loose self.new) }
@@ -58,7 +59,8 @@ pub trait Shelf: Send {
     /// `OutOfMemory` nothing has changed in any file.
     fn append(&mut self, file: File, bytes: &[u8]) -> Result<(), EdgeFault>
         ensures appended { OnOk result (Appended file bytes.now (files self.old) (files self.new)) }
-        ensures prefix { IsErrOf result EdgeFault.Failed → AppendedPrefix file bytes.now (files self.old) (files self.new) }
+        ensures prefix { IsErrOf result EdgeFault.Failed →
+            AppendedPrefix file bytes.now (files self.old) (files self.new) }
         ensures out_of_memory { IsErrOf result EdgeFault.OutOfMemory → SameFiles (files self.old) (files self.new) }
 
         ensures other_files { ChangesOnly file (files self.old) (files self.new) }

@@ -103,3 +103,16 @@ fn calls_of_all_kinds_are_numbered(rt: HostRuntime) -> Result<(), Fail> {
     assert!(rt; !shelf.is_loose(File::Head));
     Ok(())
 }
+
+#[test]
+fn a_failing_cut_makes_an_absent_file_loose(rt: HostRuntime) -> Result<(), Fail> {
+    let file = File::Container(0, 0);
+    for kept in [0, 1] {
+        let mut shelf = shelf_with(&rt, &[ShelfFail { call: 0, kept }])?;
+        assert!(rt; !shelf.is_loose(file));
+        assert_eq!(rt; shelf.cut(file, 1).err(), Some(EdgeFault::Failed));
+        assert!(rt; shelf.file(file).is_empty());
+        assert!(rt; shelf.is_loose(file), "{kept} kept");
+    }
+    Ok(())
+}

@@ -5,8 +5,9 @@ ghost use Rattle.edge_traits.specs.Faults.{CountsFault};
 use crate::retry::read_retrying;
 use crate::{EdgeFault, Source};
 
-/// Standard input as a source. It tells nothing of its bytes. Each read asks the system once for as much as fits, with
-/// no buffer between, and answers `Failed` where the system refuses it. Defined by this project.
+/// Standard input as a source. It tells nothing of its bytes. A read takes a reader of std's, which makes two calls of the
+/// system: an `lseek`, and a read of as much as fits, with no buffer between. A read that a signal interrupts is made
+/// again, as `read_retrying` says; `Failed` is answered where the system refuses it. Defined by this project.
 #[derive(Drop)]
 pub struct StdSource<T> {
     rt: T,

@@ -5,6 +5,8 @@ use std::alloc::{AllocError, Allocator};
 use std::fmt::Display;
 use std::io;
 use std::io::{BufRead, ErrorKind, Lines, Read};
+use std::sync::atomic::AtomicU64;
+use std::sync::atomic::Ordering::SeqCst;
 use std::test::Fail;
 
 fn none(rt: &HostRuntime) -> Vec<u32>
@@ -159,10 +161,21 @@ fn an_interrupted_read_is_tried_again(rt: HostRuntime) -> Result<(), Fail> {
     Ok(())
 }
 
-/// Standard output that takes so many bytes of each piece, and fails at a piece of none.
+/// Standard output that takes so many bytes of each piece, and fails at a piece of none. It records what it took: the last
+/// eight bytes, in big-endian order.
 #[derive(Drop)]
 struct Takes {
     bytes: usize,
+    taken: AtomicU64,
+}
+
+impl Takes {
+    fn new(bytes: usize) -> Self {
+        Takes {
+            bytes,
+            taken: AtomicU64::new(0),
+        }
+    }
 }
 
 impl Print for Takes {
@@ -182,16 +195,29 @@ impl Print for Takes {
         if bytes.is_empty() {
             return Err(ErrorKind::InvalidInput.into());
         }
-        Ok(bytes.len().min(self.bytes))
+        let count = bytes.len().min(self.bytes);
+        for byte in &bytes[..count] {
+            let before = self.taken.load(SeqCst);
+            self.taken.store(before << 8 | u64::from(*byte), SeqCst);
+        }
+        Ok(count)
     }
 }
 
 #[test]
 fn a_write_that_takes_nothing_fails(rt: HostRuntime) -> Result<(), Fail> {
-    let mut sink = StdSink::new(Takes { bytes: 2 });
+    let mut sink = StdSink::new(Takes::new(2));
     assert_eq!(rt; sink.write(b"abc")?, 2);
     assert_eq!(rt; sink.write(b"").err(), Some(EdgeFault::Failed));
-    let mut deaf = StdSink::new(Takes { bytes: 0 });
+    let mut deaf = StdSink::new(Takes::new(0));
     assert_eq!(rt; deaf.write(b"abc").err(), Some(EdgeFault::Failed));
+    Ok(())
+}
+
+#[test]
+fn standard_output_receives_the_bytes_in_order(rt: HostRuntime) -> Result<(), Fail> {
+    let output = Takes::new(2);
+    write_all(&mut StdSink::new(&output), b"abcde")?;
+    assert_eq!(rt; output.taken.load(SeqCst).to_be_bytes(), *b"\0\0\0abcde");
     Ok(())
 }
