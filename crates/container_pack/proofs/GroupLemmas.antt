@@ -3,6 +3,7 @@ use Rattle.std.proofs.Common.{◌≡◌, inl, inr, ℕ, zero, suc, ◌+◌, ◌<
 use Rattle.std.specs.Prelude.{All}
 use Rattle.std.specs.List.{concat, flat_map}
 use Rattle.std.proofs.lemmas.List.{append-nil}
+use Rattle.std.proofs.lemmas.List.Elements.{All-tail}
 use Rattle.std.proofs.lemmas.List.Folds.{concat-append}
 use Rattle.std.proofs.lemmas.Bool.Decides.{leb_tells}
 use Rattle.sd_base.specs.Packing.{header_of, packed_on, packing, ArePacked}
@@ -11,9 +12,6 @@ use Rattle.container_pack.proofs.PackingLemmas.{Chunks, packed_on-fits, packed_o
 
 abbrev pub Groups : Type 0
 Groups = List Chunks
-
-All_rest : (chunk : List ℕ) (chunks : Chunks) → All (λ c. length c ≤ LARGEST_MAX) (chunk ∷ chunks) → All (λ c. length c ≤ LARGEST_MAX) chunks
-All_rest chunk chunks bounded = λ k d inside. bounded (suc k) d (omega arith)
 
 -- `ArePacked`, where the first container has this number
 pub record ArePackedFrom (number : ℕ) (groups : Groups) (containers : Chunks) : Type 0 where
@@ -94,7 +92,7 @@ grouped number first group (chunk ∷ chunks) fits bounded =
       | inl room ↦
           let longer : open_one ++ chunk ≡ header_of number ++ concat (first ∷ group ++ chunk ∷ []) = one_more number first chunk group in
           let still : length (header_of number ++ concat (first ∷ group ++ chunk ∷ [])) ≤ MAX_CONTAINER = subst (λ (l : List ℕ). length l ≤ MAX_CONTAINER) longer (omega (arith, room.1, length-append open_one chunk)) in
-          let there = grouped number first (group ++ chunk ∷ []) chunks still (All_rest chunk chunks bounded) in
+          let there = grouped number first (group ++ chunk ∷ []) chunks still (All-tail (λ (c : List ℕ). length c ≤ LARGEST_MAX) chunk chunks bounded) in
           record {
             groups = there.groups;
             all_of_them = there.all_of_them ∙ ap (λ (l : Chunks). first ∷ l) (append_assoc group (chunk ∷ []) chunks);
@@ -106,7 +104,7 @@ grouped number first group (chunk ∷ chunks) fits bounded =
           let next : List ℕ = header_of (number + 1) in
           let alone : next ++ chunk ≡ next ++ concat (chunk ∷ []) = ap (λ (l : List ℕ). next ++ l) (sym (append-nil chunk)) in
           let short : length (next ++ concat (chunk ∷ [])) ≤ MAX_CONTAINER = subst (λ (l : List ℕ). length l ≤ MAX_CONTAINER) alone (omega (arith, bounded 0 [] (omega arith), length-append next chunk)) in
-          let there = grouped (number + 1) chunk [] chunks short (All_rest chunk chunks bounded) in
+          let there = grouped (number + 1) chunk [] chunks short (All-tail (λ (c : List ℕ). length c ≤ LARGEST_MAX) chunk chunks bounded) in
           let full : MAX_CONTAINER < length open_one + length (get_or (get_or there.groups 0 []) 0 []) =
           subst (λ (l : List ℕ). MAX_CONTAINER < length open_one + length l) (sym there.first_one) none.1 in
           record {
@@ -143,7 +141,7 @@ packing-by_groups [] bounded = ([], refl, nothing_packed)
 packing-by_groups (chunk ∷ chunks) bounded =
     let alone : header_of 0 ++ chunk ≡ header_of 0 ++ concat (chunk ∷ []) = ap (λ (l : List ℕ). header_of 0 ++ l) (sym (append-nil chunk)) in
     let short : length (header_of 0 ++ concat (chunk ∷ [])) ≤ MAX_CONTAINER = subst (λ (l : List ℕ). length l ≤ MAX_CONTAINER) alone (omega (arith, bounded 0 [] (omega arith), length-append (header_of 0) chunk)) in
-    let g = grouped 0 chunk [] chunks short (All_rest chunk chunks bounded) in (
+    let g = grouped 0 chunk [] chunks short (All-tail (λ (c : List ℕ). length c ≤ LARGEST_MAX) chunk chunks bounded) in (
       g.groups,
       g.all_of_them,
       ArePacked-from g.groups (packing (chunk ∷ chunks))

@@ -149,12 +149,15 @@ module _ (packer : Packer) (before ready after : Files) (chunk : List ℕ) (spot
   pushed : Pushed (packing chunks) (packing (chunks ++ chunk ∷ [])) spot chunk
   pushed = subst (λ (s : Spot). Pushed (packing chunks) (packing (chunks ++ chunk ∷ [])) s chunk) (sym at) (pushed_behind packer before chunks chunk some stands.behind)
 
-  -- the piece is appended
+  -- the piece is appended, and its container ends with it
+  pub HasOnly-next : Appended file chunk ready after → HasOnly (content after file) (get_or (packing (chunks ++ chunk ∷ [])) spot.container [])
+  HasOnly-next appended =
+      subst (λ (l : List ℕ). HasOnly (content after file) l) (sym pushed.grown) (HasOnly-append (content ready file) (content after file) had chunk ready_with appended)
+
   pub StandsBehind-next : (next : Packer) → next.generation ≡ packer.generation → next.chunks ≡ packer.chunks + 1 → next.fill ≡ filled_by packer.fill (length chunk)
       → Appended file chunk ready after → StandsBehind next after (chunks ++ chunk ∷ [])
   StandsBehind-next next generation count fill appended =
-      let only : HasOnly (content after file) (get_or (packing (chunks ++ chunk ∷ [])) spot.container []) =
-      subst (λ (l : List ℕ). HasOnly (content after file) l) (sym pushed.grown) (HasOnly-append (content ready file) (content after file) had chunk ready_with appended) in
+      let only : HasOnly (content after file) (get_or (packing (chunks ++ chunk ∷ [])) spot.container []) = HasOnly-next appended in
       record {
         behind = subst (λ (l : List ℕ). IsBehind next l) (sym (map_push (λ (c : List ℕ). length c) chunks chunk))
             (IsBehind-next packer next (map length chunks) (length chunk) some count fill stands.behind);

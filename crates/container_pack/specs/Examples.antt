@@ -4,7 +4,8 @@ use Rattle.sd_base.specs.Packing.{header_of, packing}
 use Rattle.container_pack.specs.Spots.{spots_of}
 
 -- container 0 of the chunks `abc` and `d`, byte for byte
-pub packing-two_chunks : packing (codes "abc" ∷ codes "d" ∷ []) ≡ (0x53 ∷ 0x53 ∷ 0x43 ∷ 0x50 ∷ 0 ∷ 0 ∷ 0 ∷ 0 ∷ 0x61 ∷ 0x62 ∷ 0x63 ∷ 0x64 ∷ []) ∷ []
+pub packing-two_chunks : packing (codes "abc" ∷ codes "d" ∷ [])
+    ≡ (0x53 ∷ 0x53 ∷ 0x43 ∷ 0x50 ∷ 0 ∷ 0 ∷ 0 ∷ 0 ∷ 0x61 ∷ 0x62 ∷ 0x63 ∷ 0x64 ∷ []) ∷ []
 packing-two_chunks = refl
 
 pub packing-nothing : packing [] ≡ []
@@ -14,13 +15,19 @@ packing-nothing = refl
 pub header_of-container_258 : header_of 258 ≡ codes "SSCP" ++ 0 ∷ 0 ∷ 1 ∷ 2 ∷ []
 header_of-container_258 = refl
 
-pub spots_of-small : spots_of (64 ∷ 8 ∷ []) ≡ record { container = 0; offset = 8 } ∷ record { container = 0; offset = 72 } ∷ []
+pub spots_of-small : spots_of (64 ∷ 8 ∷ [])
+    ≡ record { container = 0; offset = 8 } ∷ record { container = 0; offset = 72 } ∷ []
 spots_of-small = refl
 
 -- four of the longest chunks need two containers
-pub spots_of-four : spots_of (1048576 ∷ 1048576 ∷ 1048576 ∷ 1048576 ∷ []) ≡ record { container = 0; offset = 8 } ∷ record { container = 0; offset = 1048584 } ∷ record { container = 0; offset = 2097160 } ∷ record { container = 1; offset = 8 } ∷ []
+pub spots_of-four : spots_of (1048576 ∷ 1048576 ∷ 1048576 ∷ 1048576 ∷ [])
+    ≡ record { container = 0; offset = 8 } ∷ record { container = 0; offset = 1048584 }
+    ∷ record { container = 0; offset = 2097160 } ∷ record { container = 1; offset = 8 } ∷ []
 spots_of-four = refl
 
 -- the fourth fills its container, and the fifth opens the next
-pub spots_of-full : spots_of (1048576 ∷ 1048576 ∷ 1048576 ∷ 1048568 ∷ 1 ∷ []) ≡ record { container = 0; offset = 8 } ∷ record { container = 0; offset = 1048584 } ∷ record { container = 0; offset = 2097160 } ∷ record { container = 0; offset = 3145736 } ∷ record { container = 1; offset = 8 } ∷ []
+pub spots_of-full : spots_of (1048576 ∷ 1048576 ∷ 1048576 ∷ 1048568 ∷ 1 ∷ [])
+    ≡ record { container = 0; offset = 8 } ∷ record { container = 0; offset = 1048584 }
+    ∷ record { container = 0; offset = 2097160 } ∷ record { container = 0; offset = 3145736 }
+    ∷ record { container = 1; offset = 8 } ∷ []
 spots_of-full = refl

@@ -1,12 +1,19 @@
 -- Laws of the packing of chunks, in the words of the subject.
-use Rattle.std.specs.Prelude.{◌≡◌, ℕ, ◌≤◌, List, ◌++◌, length, All}
+use Rattle.std.specs.Prelude.{◌≡◌, ℕ, ◌≤◌, List, ◌++◌, length, map, All}
 use Rattle.std.specs.List.{flat_map}
 use Rattle.sd_base.specs.Packing.{packing, ArePacked, ArePrefixes}
 use Rattle.sd_base.specs.declared.limits.TheConstants.{LARGEST_MAX}
+use Rattle.container_pack.specs.Spots.{spots_of, LieAt}
 
 -- a longer list of chunks has the containers of a shorter one, longer ones in their place, and more
 abbrev pub LongerListsOnlyExtend : Type 0
 LongerListsOnlyExtend = (chunks more : List (List ℕ)) → ArePrefixes (packing chunks) (packing (chunks ++ more))
+
+-- chunks, none of them empty, lie at the spots that their lengths give, however many there are
+abbrev pub ChunksLieAtTheirSpots : Type 0
+ChunksLieAtTheirSpots =
+    (chunks : List (List ℕ)) → All (λ n. 1 ≤ n) (map length chunks) →
+    LieAt (packing chunks) (spots_of (map length chunks)) chunks
 
 -- the containers of chunks that are not too long are those of some groups of the chunks in order
 abbrev pub PackingIsByGroups : Type 0

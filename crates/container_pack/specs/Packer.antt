@@ -47,6 +47,7 @@ pub record IsUnflushed (packer : Packer) (k : ℕ) : Type 0 where
 pub record StandBefore (packer : Packer) (files : Option (File → List ℕ)) (spot : Spot) (had : List ℕ) : Type 0 where
   pub offset : length had ≡ spot.offset
   pub new_one : spot.container ≡ packer.fill.containers → had ≡ header_of spot.container
-  pub begins : spot.container ≢ packer.fill.containers → Begins (content files (Container packer.generation spot.container)) had
+  pub begins : spot.container ≢ packer.fill.containers →
+      Begins (content files (Container packer.generation spot.container)) had
   pub no_tail : spot.container ≢ packer.fill.containers → packer.is_cut ≡ true →
       HasOnly (content files (Container packer.generation spot.container)) had

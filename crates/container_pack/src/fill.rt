@@ -1,3 +1,4 @@
+//! How far the containers of chunks are filled.
 ghost use Rattle.std.specs.Prelude.{◌≡◌, ◌+◌, ◌-◌, ◌<◌, ◌≤◌, ◌^◌};
 ghost use Rattle.container_pack.specs.Spots.{nothing_filled, filled_by, last_spot, IsSound};
 

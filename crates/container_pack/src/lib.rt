@@ -11,7 +11,7 @@ mod placing;
 mod reading;
 mod spot;
 
-pub use laws::{containers_only_grow, packing_is_by_groups};
+pub use laws::{chunks_lie_at_their_spots, containers_only_grow, packing_is_by_groups};
 pub use packer::Packer;
 pub use placing::places;
 pub use reading::read_chunk;

@@ -1,4 +1,5 @@
-ghost use Rattle.std.specs.Prelude.{◌≡◌, ◌≢◌, ◌⊎◌, ◌↔◌, ◌+◌, ◌≤◌, ◌<◌, ℕ, List, [], ◌∷◌, ◌++◌, length, map, All, true, false, IfOk, OnOk, OnErr, IsErrOf};
+//! Chunks appended to containers.
+ghost use Rattle.std.specs.Prelude.{◌≡◌, ◌≢◌, ◌⊎◌, ◌↔◌, ◌+◌, ◌≤◌, ◌<◌, ℕ, List, [], ◌∷◌, ◌++◌, length, map, All, true, false, slice_index_or, IfOk, OnOk, OnErr, IsOk, IsErrOf};
 ghost use Rattle.sd_base.specs.declared.limits.TheConstants.{MAX_CHUNKS};
 ghost use Rattle.sd_base.specs.Packing.{packing, header_of};
 ghost use Rattle.edge_traits.specs.declared.shelf.File.{File};
@@ -80,9 +81,13 @@ impl Packer {
         ensures lies { (chunks : List (List ℕ)) → IsBehind self.old (map length chunks)
             → IfOk result (λ spot. LiesAt (packing (chunks ++ chunk.now ∷ [])) spot chunk.now) }
 
-        // The containers begin with the chunks before and with this one; after a refusal with the chunks before.
+        // The containers begin with the chunks before and with this one, which ends its file; after a refusal they begin
+        // with the chunks before.
         ensures packed { (chunks : List (List ℕ)) → StandsBehind self.old (F.files shelf.old) chunks
             → OnOk result (StandsBehind self.new (F.files shelf.new) (chunks ++ chunk.now ∷ [])) }
+        ensures ends { (chunks : List (List ℕ)) → StandsBehind self.old (F.files shelf.old) chunks
+            → IfOk result (λ spot. HasOnly (content (F.files shelf.new) (Container (generation_of self.old) spot.container))
+            (slice_index_or (packing (chunks ++ chunk.now ∷ [])) spot.container [])) }
         ensures earlier_chunks { (chunks : List (List ℕ)) → StandsBehind self.old (F.files shelf.old) chunks
             → OnErr result (ContainersBegin (F.files shelf.new) (generation_of self.old) (packing chunks)) }
         ensures other_files { ChangesOnly (next_file self.old (length chunk.now)) (F.files shelf.old) (F.files shelf.new) }
@@ -95,12 +100,11 @@ impl Packer {
         ensures never_falls { F.faults shelf.old ≤ F.faults shelf.new }
     {
         let length = chunk.len() as u32;
-        let fill = self.fill.with_chunk(length);
-        let spot = fill.last_spot(length);
+        let spot = self.next_spot(length);
         self.make_ready(shelf, spot)?;
         shelf.append(File::Container(self.generation, spot.container), chunk)?;
         self.chunks += 1;
-        self.fill = fill;
+        self.fill = self.fill.with_chunk(length);
         self.is_cut = true;
         self.first_unflushed = self.first_unflushed.min(spot.container);
         Ok(spot)
@@ -113,8 +117,10 @@ impl Packer {
             → OnOk result (F.loose shelf.new (Container (generation_of self.old) k) ≡ false) }
         ensures none_left { (k : ℕ) → OnOk result (¬ IsUnflushed self.new k) }
         ensures loosens_none { (f : File) → F.loose shelf.old f ≡ false → F.loose shelf.new f ≡ false }
-        ensures other_files { (f : File) → ((k : ℕ) → IsUnflushed self.old k → f ≢ Container (generation_of self.old) k)
+        ensures other_loose { (f : File) → ((k : ℕ) → IsUnflushed self.old k → f ≢ Container (generation_of self.old) k)
             → F.loose shelf.new f ≡ F.loose shelf.old f }
+
+        ensures no_call { ((k : ℕ) → ¬ IsUnflushed self.old k) → (shelf.new ≡ shelf.old) × IsOk result }
 
         ensures same_files { SameFiles (F.files shelf.old) (F.files shelf.new) }
         ensures generation { generation_of self.new ≡ generation_of self.old }
@@ -133,6 +139,16 @@ impl Packer {
         Ok(())
     }
 
+    /// Where a chunk of this length lies that is appended next.
+    fn next_spot(&self, length: u32) -> Spot
+        requires some { 1 ≤ length }
+        requires bounded { length ≤ LARGEST_MAX }
+        requires few { chunk_count self.now < MAX_CHUNKS }
+        ensures { result ≡ next_spot self.now length }
+    {
+        self.fill.with_chunk(length).last_spot(length)
+    }
+
     /// Leaves in the container of a spot what stands before the spot, and nothing behind it.
     fn make_ready<F: Shelf>(&self, shelf: &mut F, spot: Spot) -> Result<(), EdgeFault>
         ensures ready { (had : List ℕ) → StandBefore self.now (F.files shelf.old) spot had
@@ -141,8 +157,10 @@ impl Packer {
             → spot.container ≢ self.now.fill.containers
             → Begins (content (F.files shelf.new) (Container (generation_of self.now) spot.container)) had }
 
-        ensures other_files { ChangesOnly (Container (generation_of self.now) spot.container) (F.files shelf.old) (F.files shelf.new) }
-        ensures may_loosen { MayLoosen (Container (generation_of self.now) spot.container) (F.loose shelf.old) (F.loose shelf.new) }
+        ensures other_files { ChangesOnly (Container (generation_of self.now) spot.container)
+            (F.files shelf.old) (F.files shelf.new) }
+        ensures may_loosen { MayLoosen (Container (generation_of self.now) spot.container)
+            (F.loose shelf.old) (F.loose shelf.new) }
 
         ensures failed { IsErrOf result EdgeFault.Failed → Rose (F.faults shelf.old) (F.faults shelf.new) }
         ensures never_falls { F.faults shelf.old ≤ F.faults shelf.new }

@@ -1,3 +1,4 @@
+//! The spots of chunks, by the lengths of the chunks.
 ghost use Rattle.std.specs.Prelude.{◌≡◌, ◌≤◌, ℕ, List, length, map, All, IfOk};
 ghost use Rattle.sd_base.specs.Packing.{packing};
 ghost use Rattle.container_pack.specs.Spots.{spots_of, LieAt};

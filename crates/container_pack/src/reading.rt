@@ -1,3 +1,4 @@
+//! A chunk read back from its spot.
 ghost use Rattle.std.specs.Prelude.{◌≡◌, ◌≤◌, ℕ, List, vec_len, IfOk, IfSome, IsErrOf};
 ghost use Rattle.edge_traits.specs.declared.shelf.File.TheVariants.{Container};
 ghost use Rattle.edge_traits.specs.Faults.{Rose};
@@ -20,7 +21,8 @@ pub fn read_chunk<F: Shelf>(
     ensures bytes { IfOk result (λ chunk.
         IsReadAt (content (F.files shelf.old) (Container generation spot.container)) spot.offset length chunk.items) }
     ensures stored { (stored : List ℕ) → IsStored (F.files shelf.old) generation spot length stored
-        → IfOk result (λ chunk. IfSome (content (F.files shelf.old) (Container generation spot.container)) (λ _. chunk.items ≡ stored)) }
+        → IfOk result (λ chunk. IfSome
+        (content (F.files shelf.old) (Container generation spot.container)) (λ _. chunk.items ≡ stored)) }
     ensures bound { IfOk result (λ chunk. vec_len chunk ≤ length) }
 
     ensures same_files { SameFiles (F.files shelf.old) (F.files shelf.new) }

@@ -78,6 +78,45 @@ fn the_next_container_is_opened(rt: HostRuntime) -> Result<(), Fail> {
     Ok(())
 }
 
+#[test]
+fn the_last_container_keeps_its_tail_where_the_next_is_opened(rt: HostRuntime) -> Result<(), Fail> {
+    let file = File::Container(0, 0);
+    let chunk = vec![in rt.alloc(); 7; LONGEST as usize]?;
+    let mut shelf = shelf_with(&rt, &[])?;
+    let mut packer = Packer::resume(0, &[]);
+    packer.append_chunk(&mut shelf, &chunk)?;
+    packer.append_chunk(&mut shelf, &chunk)?;
+    packer.append_chunk(&mut shelf, &chunk)?;
+    shelf.append(file, b"TAIL")?;
+
+    let mut packer = Packer::resume(0, &[LONGEST, LONGEST, LONGEST]);
+    assert_eq!(rt; packer.append_chunk(&mut shelf, &chunk)?, spot(1, 8));
+    assert_eq!(rt; shelf.len(file)?, 3_145_736 + 4);
+    assert!(rt; shelf.file(file).ends_with(b"\x07TAIL"));
+    Ok(())
+}
+
+#[test]
+fn two_containers_are_flushed_and_read(rt: HostRuntime) -> Result<(), Fail> {
+    let chunk = vec![in rt.alloc(); 7; LONGEST as usize]?;
+    let mut shelf = shelf_with(&rt, &[])?;
+    let mut packer = Packer::resume(3, &[LONGEST, LONGEST, LONGEST - 1]);
+    assert_eq!(rt; packer.append_chunk(&mut shelf, b"a")?, spot(0, 3_145_735));
+    assert_eq!(rt; packer.append_chunk(&mut shelf, &chunk)?, spot(1, 8));
+    for number in [0, 1] {
+        assert!(rt; shelf.is_loose(File::Container(3, number)));
+    }
+    packer.flush(&mut shelf)?;
+    for number in [0, 1] {
+        assert!(rt; !shelf.is_loose(File::Container(3, number)));
+    }
+    let read = read_chunk(rt.alloc(), &mut shelf, 3, spot(1, 8), LONGEST)?;
+    assert_eq!(rt; read.as_slice(), chunk.as_slice());
+    let other = read_chunk(rt.alloc(), &mut shelf, 0, spot(1, 8), LONGEST)?;
+    assert!(rt; other.is_empty());
+    Ok(())
+}
+
 /// What container 0 holds with the chunk `abc`, with `d` behind it and with `ef` behind both.
 const ONE_CHUNK: &[u8] = b"SSCP\0\0\0\0abc";
 

@@ -9,7 +9,8 @@ abbrev pub invariant-loop-number : goal.invariant-loop-number
 invariant-loop-number g l = record {
   flushed : (k : ℕ) → l.self.first_unflushed ≤ k → k < l.number → g.F.Shelf.loose l.shelf (Container l.self.generation k) ≡ false;
   loosens_none : (f : File) → g.F.Shelf.loose l.initial.shelf f ≡ false → g.F.Shelf.loose l.shelf f ≡ false;
-  other_files : (f : File) → ((k : ℕ) → IsUnflushed l.self k → f ≢ Container l.self.generation k) → g.F.Shelf.loose l.shelf f ≡ g.F.Shelf.loose l.initial.shelf f;
+  other_loose : (f : File) → ((k : ℕ) → IsUnflushed l.self k → f ≢ Container l.self.generation k) → g.F.Shelf.loose l.shelf f ≡ g.F.Shelf.loose l.initial.shelf f;
+  no_call : l.number ≡ l.self.first_unflushed → l.shelf ≡ l.initial.shelf;
   same_files : SameFiles (g.F.Shelf.files l.initial.shelf) (g.F.Shelf.files l.shelf);
   never_falls : g.F.Shelf.faults l.initial.shelf ≤ g.F.Shelf.faults l.shelf;
 }
