@@ -1,8 +1,9 @@
 -- How a run may answer, and what it may write, where the one-pass definition says how it ends and what its text is.
 -- Defined by this project.
-use Rattle.std.specs.Prelude.{◌≡◌, ◌⊎◌, ⊤, ℕ, List, Option, None, Result, Ok, Err}
+use Rattle.std.specs.Prelude.{◌≡◌, ◌⊎◌, ◌≤◌, ⊤, ℕ, List, length, Option, None, Result, Ok, Err}
 use Rattle.edge_traits.specs.Sink.{Appends, AppendsPrefix}
 use Rattle.sd_base.specs.Parameters.{bad_parameter}
+use Rattle.sd_base.specs.declared.limits.TheConstants.{MAX_INPUT}
 use Rattle.sd_base.specs.declared.params.BadParams.{BadParams as BadParameter}
 use Rattle.sd_base.specs.declared.words.BadWords.{BadWords as Refusal}
 use Rattle.sd_base.specs.declared.words.Command.{Command}
@@ -27,7 +28,20 @@ Writes (BadParams kind) text before after = after ≡ before
 Writes InputTooLong text before after = after ≡ before
 Writes SourceFault text before after = after ≡ before
 
--- an answer before which nothing is written, whatever the devices tell
+-- The text is that of a run on some input that is not too long, where each input has the text that `text_of` says. The
+-- input is the bytes that were read, whether or not the source tells them.
+abbrev pub IsTextOfSome : (List ℕ → List ℕ) → List ℕ → Type 0
+IsTextOfSome text_of text = (input : List ℕ) × (length input ≤ MAX_INPUT) × (text_of input ≡ text)
+
+-- the whole text of a run on some input that is not too long was written
+abbrev pub AppendsOfSome : (List ℕ → List ℕ) → Option (List ℕ) → Option (List ℕ) → Type 0
+AppendsOfSome text_of before after = (input : List ℕ) × (length input ≤ MAX_INPUT) × Appends before after (text_of input)
+
+-- a prefix of the text of a run on some input was written: nothing else ever is
+abbrev pub AppendsPrefixOfSome : (List ℕ → List ℕ) → Option (List ℕ) → Option (List ℕ) → Type 0
+AppendsPrefixOfSome text_of before after = (input : List ℕ) × AppendsPrefix before after (text_of input)
+
+-- an answer before which the sink is not called, whatever the devices tell
 abbrev pub IsSilent : Outcome → Type 0
 IsSilent Done = ⊥
 IsSilent SinkFault = ⊥

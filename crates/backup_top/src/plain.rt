@@ -6,7 +6,7 @@ ghost use Rattle.sd_base.specs.Cutting.{cuts_of, next_cut};
 ghost use Rattle.sd_base.specs.Params.{numbers_of};
 
 use rabin_window::{Tables, Window};
-use sd_base::{OutOfMemory, Params};
+use sd_base::{OutOfMemory, Params, WINDOW};
 use std::alloc::Global;
 
 /// The cuts of a text, in order, found by plain division. Its contract is that of the body that `plan` runs; it serves
@@ -35,7 +35,7 @@ fn next(tables: &Tables, params: &Params, text: &[u8], start: u32) -> u32
     let furthest = (start + params.max).min(text.len() as u32);
     for position in start + params.min..furthest + 1 {
         let end = position as usize;
-        if Window::start(tables, &text[end - 48..end]).is_match(params) {
+        if Window::start(tables, &text[end - WINDOW as usize..end]).is_match(params) {
             return position;
         }
     }

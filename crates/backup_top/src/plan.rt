@@ -1,11 +1,11 @@
-ghost use Rattle.std.specs.Prelude.{◌≡◌, ◌≤◌, ◌<◌, ◌+◌, ◌↔◌, Option, Some, IfOk, IfSome, OnOk, IsErrOf, Ok, drop, length, option_map, string_bytes};
+ghost use Rattle.std.specs.Prelude.{◌≡◌, ◌≤◌, ◌<◌, ◌+◌, ◌↔◌, ◌⊎◌, [], Option, Some, IfOk, IfSome, OnOk, IsErrOf, Ok, drop, length, option_map, string_bytes};
 ghost use Rattle.edge_traits.specs.Faults.{Rose};
-ghost use Rattle.edge_traits.specs.Source.{IsAtEnd};
+ghost use Rattle.edge_traits.specs.Source.{IsAtEnd, LosesAtMost};
 ghost use Rattle.sd_base.specs.OnePass.{pass_of_plan, pass_of_valid_plan};
 ghost use Rattle.sd_base.specs.Parameters.{bad_parameter};
 ghost use Rattle.sd_base.specs.Params.{numbers_of};
 ghost use Rattle.sd_base.specs.declared.outcome.Outcome.TheVariants.{Done};
-ghost use Rattle.backup_top.specs.Run.{Answers, IsEarly, IsSilent, Writes};
+ghost use Rattle.backup_top.specs.Run.{Answers, AppendsOfSome, AppendsPrefixOfSome, IsEarly, IsSilent, IsTextOfSome, Writes};
 
 use crate::cuts::cuts_of_text;
 use crate::lines::lines_of;
@@ -26,6 +26,10 @@ pub fn plan<R: Source, K: Sink>(
         (Rose (K.faults sink.old) (K.faults sink.new)) result) }
     ensures written { IfSome (R.left source.old) (λ input.
         Writes result (pass_of_plan (bad_parameter raw.now) raw.now input).text (K.written sink.old) (K.written sink.new)) }
+    ensures of_some_input { AppendsPrefixOfSome (λ input. (pass_of_plan (bad_parameter raw.now) raw.now input).text)
+        (K.written sink.old) (K.written sink.new) }
+    ensures of_some_whole_input { result ≡ Outcome.Done → AppendsOfSome (λ input. (pass_of_plan (bad_parameter raw.now) raw.now input).text)
+        (K.written sink.old) (K.written sink.new) }
     ensures whole_input { result ≡ Outcome.Done → IsAtEnd (R.left source.new) }
 
     ensures no_bad_words { (bad : _) → result ≡ Outcome.BadWords bad → ⊥ }
@@ -35,8 +39,15 @@ pub fn plan<R: Source, K: Sink>(
     ensures source_fault { result ≡ Outcome.SourceFault
         → Rose (R.faults source.old) (R.faults source.new) }
     ensures sink_fault { result ≡ Outcome.SinkFault → Rose (K.faults sink.old) (K.faults sink.new) }
+    ensures source_never_falls { R.faults source.old ≤ R.faults source.new }
+    ensures sink_never_falls { K.faults sink.old ≤ K.faults sink.new }
 
-    ensures silent { IsSilent result → K.written sink.new ≡ K.written sink.old }
+    ensures silent { IsSilent result → sink.new ≡ sink.old }
+    ensures nothing_to_write { IfSome (R.left source.old) (λ input.
+        (pass_of_plan (bad_parameter raw.now) raw.now input).text ≡ [] → sink.new ≡ sink.old) }
+    ensures written_last { (sink.new ≡ sink.old) ⊎ IsAtEnd (R.left source.new) }
+    ensures read_first { result ≡ Outcome.SinkFault → IsAtEnd (R.left source.new) }
+    ensures taken_at_most { LosesAtMost (MAX_INPUT + 1) (R.left source.old) (R.left source.new) }
     ensures untouched { IsEarly result → (source.new ≡ source.old) × (sink.new ≡ sink.old) }
     ensures taken { result ≡ Outcome.InputTooLong
         → R.left source.new ≡ option_map (λ input. drop (MAX_INPUT + 1) input) (R.left source.old) }
@@ -60,6 +71,10 @@ fn plan_valid<R: Source, K: Sink>(
         (Rose (K.faults sink.old) (K.faults sink.new)) result) }
     ensures written { IfSome (R.left source.old) (λ input.
         Writes result (pass_of_valid_plan (numbers_of params.now) input).text (K.written sink.old) (K.written sink.new)) }
+    ensures of_some_input { AppendsPrefixOfSome (λ input. (pass_of_valid_plan (numbers_of params.now) input).text)
+        (K.written sink.old) (K.written sink.new) }
+    ensures of_some_whole_input { result ≡ Outcome.Done → AppendsOfSome (λ input. (pass_of_valid_plan (numbers_of params.now) input).text)
+        (K.written sink.old) (K.written sink.new) }
     ensures whole_input { result ≡ Outcome.Done → IsAtEnd (R.left source.new) }
 
     ensures no_bad_words { (bad : _) → result ≡ Outcome.BadWords bad → ⊥ }
@@ -69,8 +84,15 @@ fn plan_valid<R: Source, K: Sink>(
     ensures source_fault { result ≡ Outcome.SourceFault
         → Rose (R.faults source.old) (R.faults source.new) }
     ensures sink_fault { result ≡ Outcome.SinkFault → Rose (K.faults sink.old) (K.faults sink.new) }
+    ensures source_never_falls { R.faults source.old ≤ R.faults source.new }
+    ensures sink_never_falls { K.faults sink.old ≤ K.faults sink.new }
 
-    ensures silent { IsSilent result → K.written sink.new ≡ K.written sink.old }
+    ensures silent { IsSilent result → sink.new ≡ sink.old }
+    ensures nothing_to_write { IfSome (R.left source.old) (λ input.
+        (pass_of_valid_plan (numbers_of params.now) input).text ≡ [] → sink.new ≡ sink.old) }
+    ensures written_last { (sink.new ≡ sink.old) ⊎ IsAtEnd (R.left source.new) }
+    ensures read_first { result ≡ Outcome.SinkFault → IsAtEnd (R.left source.new) }
+    ensures taken_at_most { LosesAtMost (MAX_INPUT + 1) (R.left source.old) (R.left source.new) }
     ensures taken { result ≡ Outcome.InputTooLong
         → R.left source.new ≡ option_map (λ input. drop (MAX_INPUT + 1) input) (R.left source.old) }
 {
@@ -95,14 +117,18 @@ fn lines_of_input<R: Source>(
     ensures pass { IfOk result (λ lines. IfSome (R.left source.old) (λ input.
         pass_of_valid_plan (numbers_of params.now) input
         ≡ record { outcome = Done; text = string_bytes lines })) }
+    ensures of_some_input { IfOk result (λ lines.
+        IsTextOfSome (λ input. (pass_of_valid_plan (numbers_of params.now) input).text) (string_bytes lines)) }
     ensures end { OnOk result (IsAtEnd (R.left source.new)) }
 
     ensures source_fault { IsErrOf result ReadFault.SourceFault
         → Rose (R.faults source.old) (R.faults source.new) }
+    ensures never_falls { R.faults source.old ≤ R.faults source.new }
     ensures too_long { IsErrOf result ReadFault.InputTooLong
         → IfSome (R.left source.old) (λ input. MAX_INPUT < length input) }
     ensures taken { IsErrOf result ReadFault.InputTooLong
         → R.left source.new ≡ option_map (λ input. drop (MAX_INPUT + 1) input) (R.left source.old) }
+    ensures taken_at_most { LosesAtMost (MAX_INPUT + 1) (R.left source.old) (R.left source.new) }
 {
     let text = read_all(alloc, source, MAX_INPUT)?;
     let cuts = cuts_of_text(alloc, params, &text)?;

@@ -1,9 +1,16 @@
+ghost use Rattle.std.specs.Prelude.{◌≡◌, Some};
+
 use crate::cuts::cuts_of_text;
 use crate::{BadKind, BadParams, BadWords, Outcome, note_of, plain_cuts, run, status_of};
-use edge_traits::{MemSink, MemSource, NoShelf};
+use candidate_map::PlainMap;
+use cut_walk::next_cut;
+use edge_traits::{EdgeFault, MemSink, MemSource, NoShelf, Sink, Source};
+use rabin_window::Tables;
 use sd_base::{MAX_INPUT, Params};
+use segment_scan::scan_range;
 use std::alloc::{AllocError, Global};
 use std::test::Fail;
+use std::thread::Threads;
 
 const ABC: &str = "0 3 ba7816bf8f01cfea414140de5dae2223b00361a396177a9cb410ff61f20015ad\n";
 
@@ -19,6 +26,20 @@ fn words(alloc: Global, texts: &[&str]) -> Result<Vec<String>, AllocError> {
         words.push(String::from_str(alloc, text)?)?;
     }
     Ok(words)
+}
+
+// How a run with these words ends.
+fn outcome_of<H: Threads + Sync, R: Source, K: Sink>(
+    rt: &H,
+    alloc: Global,
+    texts: &[&str],
+    source: &mut R,
+    sink: &mut K,
+) -> Result<Outcome, AllocError> {
+    let words = words(alloc, texts)?;
+    let mut shelf = NoShelf::new();
+    let outcome = run(rt, alloc, words.as_slice(), source, sink, &mut shelf);
+    Ok(outcome)
 }
 
 // Names by `sha256sum` of 64 and of 8 zero bytes.
@@ -42,7 +63,6 @@ fn source_of(alloc: Global, bytes: &[u8]) -> Result<MemSource, AllocError> {
 #[test]
 fn an_input_is_printed_as_its_chunks(rt: HostRuntime) -> Result<(), Fail> {
     let alloc = rt.alloc();
-    let plan = words(alloc, &["plan"])?;
     let empty: &[u8] = &[];
     for (input, lines) in [
         (empty, ""),
@@ -51,45 +71,54 @@ fn an_input_is_printed_as_its_chunks(rt: HostRuntime) -> Result<(), Fail> {
     ] {
         let mut source = source_of(alloc, input)?;
         let mut sink = MemSink::new(alloc, Vec::new(alloc));
-        let outcome = run(
-            &rt,
-            alloc,
-            plan.as_slice(),
-            &mut source,
-            &mut sink,
-            &mut NoShelf::new(),
-        );
+        let outcome = outcome_of(&rt, alloc, &["plan"], &mut source, &mut sink)?;
         assert_eq!(rt; outcome, Outcome::Done);
         assert_eq!(rt; sink.written(), lines.as_bytes());
     }
     Ok(())
 }
 
+// Names by `sha256sum` of 99 zero bytes and a byte 1, and of 200 zero bytes.
+const ONE_LINES: &str = "\
+0 100 525370574635186b20fc1e1203e1453e4c3d5d17d0c66859ea18217a5b309b67
+100 200 6d9c54dee5660c46886f32d80e57e9dd0ffa57ee0cd2a762b036d9c8e0c3a33a
+";
+
+// t^63 + 1: a byte 1 with 47 zeros before it has the fingerprint 1, and zeros have 0.
+const SPARSE: u64 = 0x8000_0000_0000_0001;
+
+// Zeros with a byte 1 at an index, where that lies within them.
+fn zeros_with_one(alloc: Global, length: usize, index: usize) -> Result<Vec<u8>, AllocError> {
+    let mut text = vec![in alloc; 0u8; length]?;
+    if index < text.len() {
+        text[index] = 1;
+    }
+    Ok(text)
+}
+
 #[test]
 fn keys_cut_an_input_that_comes_byte_by_byte(rt: HostRuntime) -> Result<(), Fail> {
     let alloc = rt.alloc();
-    let texts = [
-        "plan",
-        "polynomial=8000000000000001",
-        "target=0",
-        "min=64",
-        "max=256",
-    ];
-    let words = words(alloc, &texts)?;
-    let zeros = vec![in alloc; 0u8; 200]?;
-    let sizes = vec![in alloc; 1u32; 200]?;
-    let mut source = MemSource::new(alloc, zeros, sizes, Vec::new(alloc));
-    let mut sink = MemSink::new(alloc, Vec::new(alloc));
-    let outcome = run(
-        &rt,
-        alloc,
-        words.as_slice(),
-        &mut source,
-        &mut sink,
-        &mut NoShelf::new(),
-    );
-    assert_eq!(rt; outcome, Outcome::Done);
-    assert_eq!(rt; sink.written(), ZEROS_LINES.as_bytes());
+    let none = 1000;
+    for (target, length, index, lines) in [
+        ("target=0", 200, none, ZEROS_LINES),
+        ("target=1", 300, 99, ONE_LINES),
+    ] {
+        let texts = [
+            "plan",
+            "polynomial=8000000000000001",
+            target,
+            "min=64",
+            "max=256",
+        ];
+        let input = zeros_with_one(alloc, length, index)?;
+        let sizes = vec![in alloc; 1u32; 300]?;
+        let mut source = MemSource::new(alloc, input, sizes, Vec::new(alloc));
+        let mut sink = MemSink::new(alloc, Vec::new(alloc));
+        let outcome = outcome_of(&rt, alloc, &texts, &mut source, &mut sink)?;
+        assert_eq!(rt; outcome, Outcome::Done);
+        assert_eq!(rt; sink.written(), lines.as_bytes());
+    }
     Ok(())
 }
 
@@ -103,15 +132,7 @@ fn a_read_that_fails_in_mid_stream_writes_nothing(rt: HostRuntime) -> Result<(),
         vec![in alloc; 2]?,
     );
     let mut sink = MemSink::new(alloc, Vec::new(alloc));
-    let plan = words(alloc, &["plan"])?;
-    let outcome = run(
-        &rt,
-        alloc,
-        plan.as_slice(),
-        &mut source,
-        &mut sink,
-        &mut NoShelf::new(),
-    );
+    let outcome = outcome_of(&rt, alloc, &["plan"], &mut source, &mut sink)?;
     assert_eq!(rt; outcome, Outcome::SourceFault);
     assert_eq!(rt; status_of(&outcome), 10);
     assert!(rt; sink.written().is_empty());
@@ -124,51 +145,58 @@ fn an_input_of_one_byte_too_many_is_refused(rt: HostRuntime) -> Result<(), Fail>
     let input = vec![in alloc; 0u8; MAX_INPUT as usize + 1]?;
     let mut source = MemSource::new(alloc, input, Vec::new(alloc), Vec::new(alloc));
     let mut sink = MemSink::new(alloc, Vec::new(alloc));
-    let plan = words(alloc, &["plan"])?;
-    let outcome = run(
-        &rt,
-        alloc,
-        plan.as_slice(),
-        &mut source,
-        &mut sink,
-        &mut NoShelf::new(),
-    );
+    let outcome = outcome_of(&rt, alloc, &["plan"], &mut source, &mut sink)?;
     assert_eq!(rt; outcome, Outcome::InputTooLong);
     assert_eq!(rt; status_of(&outcome), 8);
     assert!(rt; sink.written().is_empty());
     Ok(())
 }
 
+// A sink that takes one byte of each piece, and fails once it has `room` bytes.
+#[derive(Drop)]
+struct Slow {
+    bytes: Vec<u8>,
+    room: usize,
+    faults: u64,
+}
+
+impl Sink for Slow {
+    ghost written = { λ sink. Some sink.bytes.items };
+
+    ghost faults = { λ sink. sink.faults };
+
+    fn write(&mut self, bytes: &[u8]) -> Result<usize, EdgeFault> {
+        if self.bytes.len() == self.room {
+            self.faults = self.faults.saturating_add(1);
+            return Err(EdgeFault::Failed);
+        }
+        match bytes.first() {
+            None => Ok(0),
+            Some(byte) => {
+                self.bytes.push(*byte)?;
+                Ok(1)
+            }
+        }
+    }
+}
+
 #[test]
 fn a_write_that_fails_writes_a_prefix_of_the_text(rt: HostRuntime) -> Result<(), Fail> {
     let alloc = rt.alloc();
-    let mut source = source_of(alloc, b"abc")?;
-    let mut sink = MemSink::new(alloc, vec![in alloc; 0]?);
-    let plan = words(alloc, &["plan"])?;
-    let outcome = run(
-        &rt,
-        alloc,
-        plan.as_slice(),
-        &mut source,
-        &mut sink,
-        &mut NoShelf::new(),
-    );
-    assert_eq!(rt; outcome, Outcome::SinkFault);
-    assert_eq!(rt; status_of(&outcome), 11);
-    assert!(rt; sink.written().is_empty());
-    Ok(())
-}
-
-// t^63 + 1: a byte 1 with 47 zeros before it has the fingerprint 1, and zeros have 0.
-const SPARSE: u64 = 0x8000_0000_0000_0001;
-
-// Zeros with a byte 1 at an index, where that lies within them.
-fn zeros_with_one(alloc: Global, length: usize, index: usize) -> Result<Vec<u8>, AllocError> {
-    let mut text = vec![in alloc; 0u8; length]?;
-    if index < text.len() {
-        text[index] = 1;
+    for (room, prefix) in [(0, ""), (5, "0 3 b")] {
+        let mut source = source_of(alloc, b"abc")?;
+        let mut sink = Slow {
+            bytes: Vec::new(alloc),
+            room,
+            faults: 0,
+        };
+        let outcome = outcome_of(&rt, alloc, &["plan"], &mut source, &mut sink)?;
+        assert_eq!(rt; outcome, Outcome::SinkFault);
+        assert_eq!(rt; status_of(&outcome), 11);
+        assert_eq!(rt; sink.bytes.as_slice(), prefix.as_bytes());
+        assert_eq!(rt; sink.faults, 1);
     }
-    Ok(text)
+    Ok(())
 }
 
 #[test]
@@ -196,6 +224,26 @@ fn both_bodies_cut_where_the_rule_does(rt: HostRuntime) -> Result<(), Fail> {
 }
 
 #[test]
+fn a_cut_waits_until_it_is_decided(rt: HostRuntime) -> Result<(), Fail> {
+    let alloc = rt.alloc();
+    let params = Params::new(SPARSE, 13, 1, 64, 256)?;
+    let text = zeros_with_one(alloc, 300, 99)?;
+    assert!(rt; text.len() == 300);
+    let mut map = PlainMap::new(alloc, 301)?;
+    scan_range(&Tables::new(&params), &params, &text, 0, 300, &mut map);
+    for (start, known, at_end, cut) in [
+        (0, 80, false, None),
+        (0, 100, false, Some(100)),
+        (100, 300, false, None),
+        (100, 300, true, Some(300)),
+    ] {
+        assert!(rt; start < known && known < map.bits());
+        assert_eq!(rt; next_cut(&map, &params, start, known, at_end), cut);
+    }
+    Ok(())
+}
+
+#[test]
 fn the_first_number_out_of_its_range_is_named(rt: HostRuntime) -> Result<(), Fail> {
     let alloc = rt.alloc();
     for (texts, kind) in [
@@ -209,17 +257,14 @@ fn the_first_number_out_of_its_range_is_named(rt: HostRuntime) -> Result<(), Fai
     ] {
         let mut source = source_of(alloc, b"abc")?;
         let mut sink = MemSink::new(alloc, Vec::new(alloc));
-        let words = words(alloc, texts)?;
-        let outcome = run(
-            &rt,
-            alloc,
-            words.as_slice(),
-            &mut source,
-            &mut sink,
-            &mut NoShelf::new(),
-        );
+        let outcome = outcome_of(&rt, alloc, texts, &mut source, &mut sink)?;
         assert_eq!(rt; outcome, Outcome::BadParams(kind));
         assert_eq!(rt; status_of(&outcome), 14);
+
+        // The source and the sink are as they were.
+        let mut into = [0u8; 4];
+        assert_eq!(rt; source.read(&mut into)?, 3);
+        assert!(rt; sink.written().is_empty());
     }
     Ok(())
 }

@@ -1,10 +1,10 @@
-ghost use Rattle.std.specs.Prelude.{◌≡◌, ◌<◌, ◌≤◌, ◌+◌, ◌↔◌, List, length, drop, IfSome, Err, Some, option_map};
+ghost use Rattle.std.specs.Prelude.{◌≡◌, ◌<◌, ◌≤◌, ◌+◌, ◌↔◌, ◌⊎◌, [], List, length, drop, IfSome, Err, Some, option_map};
 ghost use Rattle.edge_traits.specs.Faults.{Rose};
-ghost use Rattle.edge_traits.specs.Source.{IsAtEnd};
+ghost use Rattle.edge_traits.specs.Source.{IsAtEnd, LosesAtMost};
 ghost use Rattle.sd_base.specs.OnePass.{one_pass, pass_of_command};
 ghost use Rattle.sd_base.specs.Words.{command_of};
 ghost use Rattle.sd_base.specs.declared.words.Command.TheVariants.{Quiet as quiet};
-ghost use Rattle.backup_top.specs.Run.{Answers, HasDefaults, IsEarly, IsSilent, Writes, bad_parameter_in, bad_parameter_of};
+ghost use Rattle.backup_top.specs.Run.{Answers, AppendsOfSome, AppendsPrefixOfSome, HasDefaults, IsEarly, IsSilent, Writes, bad_parameter_in, bad_parameter_of};
 ghost use Rattle.backup_top.specs.Words.{texts_of};
 
 use crate::plan::plan;
@@ -35,6 +35,10 @@ pub fn run<H: Threads + Sync, R: Source, K: Sink, F: Shelf>(
         (Rose (K.faults sink.old) (K.faults sink.new)) result) }
     ensures written { IfSome (R.left source.old) (λ input.
         Writes result (one_pass (texts_of words.now) input).text (K.written sink.old) (K.written sink.new)) }
+    ensures of_some_input { AppendsPrefixOfSome (λ input. (one_pass (texts_of words.now) input).text)
+        (K.written sink.old) (K.written sink.new) }
+    ensures of_some_whole_input { result ≡ Outcome.Done → AppendsOfSome (λ input. (one_pass (texts_of words.now) input).text)
+        (K.written sink.old) (K.written sink.new) }
     ensures whole_input { result ≡ Outcome.Done → IsAtEnd (R.left source.new) }
 
     // When each refusal comes, whatever the devices tell.
@@ -47,9 +51,16 @@ pub fn run<H: Threads + Sync, R: Source, K: Sink, F: Shelf>(
     ensures source_fault { result ≡ Outcome.SourceFault
         → Rose (R.faults source.old) (R.faults source.new) }
     ensures sink_fault { result ≡ Outcome.SinkFault → Rose (K.faults sink.old) (K.faults sink.new) }
+    ensures source_never_falls { R.faults source.old ≤ R.faults source.new }
+    ensures sink_never_falls { K.faults sink.old ≤ K.faults sink.new }
 
     // What a refusal leaves.
-    ensures silent { IsSilent result → K.written sink.new ≡ K.written sink.old }
+    ensures silent { IsSilent result → sink.new ≡ sink.old }
+    ensures nothing_to_write { IfSome (R.left source.old) (λ input.
+        (one_pass (texts_of words.now) input).text ≡ [] → sink.new ≡ sink.old) }
+    ensures written_last { (sink.new ≡ sink.old) ⊎ IsAtEnd (R.left source.new) }
+    ensures read_first { result ≡ Outcome.SinkFault → IsAtEnd (R.left source.new) }
+    ensures taken_at_most { LosesAtMost (MAX_INPUT + 1) (R.left source.old) (R.left source.new) }
     ensures untouched { IsEarly result → (source.new ≡ source.old) × (sink.new ≡ sink.old) }
     ensures taken { result ≡ Outcome.InputTooLong
         → R.left source.new ≡ option_map (λ input. drop (MAX_INPUT + 1) input) (R.left source.old) }
@@ -79,6 +90,10 @@ pub fn run_quiet<H: Threads + Sync, R: Source, K: Sink, F: Shelf>(
         (Rose (K.faults sink.old) (K.faults sink.new)) result) }
     ensures written { IfSome (R.left source.old) (λ input.
         Writes result (pass_of_command (quiet command.now) input).text (K.written sink.old) (K.written sink.new)) }
+    ensures of_some_input { AppendsPrefixOfSome (λ input. (pass_of_command (quiet command.now) input).text)
+        (K.written sink.old) (K.written sink.new) }
+    ensures of_some_whole_input { result ≡ Outcome.Done → AppendsOfSome (λ input. (pass_of_command (quiet command.now) input).text)
+        (K.written sink.old) (K.written sink.new) }
     ensures whole_input { result ≡ Outcome.Done → IsAtEnd (R.left source.new) }
 
     // When each refusal comes, whatever the devices tell.
@@ -89,9 +104,16 @@ pub fn run_quiet<H: Threads + Sync, R: Source, K: Sink, F: Shelf>(
     ensures source_fault { result ≡ Outcome.SourceFault
         → Rose (R.faults source.old) (R.faults source.new) }
     ensures sink_fault { result ≡ Outcome.SinkFault → Rose (K.faults sink.old) (K.faults sink.new) }
+    ensures source_never_falls { R.faults source.old ≤ R.faults source.new }
+    ensures sink_never_falls { K.faults sink.old ≤ K.faults sink.new }
 
     // What a refusal leaves.
-    ensures silent { IsSilent result → K.written sink.new ≡ K.written sink.old }
+    ensures silent { IsSilent result → sink.new ≡ sink.old }
+    ensures nothing_to_write { IfSome (R.left source.old) (λ input.
+        (pass_of_command (quiet command.now) input).text ≡ [] → sink.new ≡ sink.old) }
+    ensures written_last { (sink.new ≡ sink.old) ⊎ IsAtEnd (R.left source.new) }
+    ensures read_first { result ≡ Outcome.SinkFault → IsAtEnd (R.left source.new) }
+    ensures taken_at_most { LosesAtMost (MAX_INPUT + 1) (R.left source.old) (R.left source.new) }
     ensures untouched { IsEarly result → (source.new ≡ source.old) × (sink.new ≡ sink.old) }
     ensures taken { result ≡ Outcome.InputTooLong
         → R.left source.new ≡ option_map (λ input. drop (MAX_INPUT + 1) input) (R.left source.old) }

@@ -38,6 +38,8 @@ fn the_first_word_that_fails_is_named(rt: HostRuntime) -> Result<(), Fail> {
         (none, BadKind::Missing, 0),
         (&["Plan"], BadKind::Command, 0),
         (&["--help"], BadKind::Command, 0),
+        (&["init"], BadKind::Command, 0),
+        (&["list"], BadKind::Command, 0),
         (&["", "bits=13"], BadKind::Command, 0),
         (&["plan", "speed=3"], BadKind::Key, 1),
         (&["plan", "Bits=3"], BadKind::Key, 1),
