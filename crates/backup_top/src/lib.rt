@@ -1,6 +1,6 @@
 //! The top of the tool: reads the words, runs the command that they name, and says how the run ended. It stands on the
-//! definitions of `sd_base`, on the devices of `edge_traits`, on `segment_scan`, with the windows of `rabin_window` and the
-//! maps of `candidate_map`, and on `cut_walk` for cutting, and on `chunk_names` for the names of chunks.
+//! definitions of `sd_base` and the devices of `edge_traits`; it cuts by `segment_scan` and `cut_walk`, with the windows of
+//! `rabin_window` and the maps of `candidate_map`, and names chunks by `chunk_names`.
 #![tactic(auto)]
 
 mod cuts;
