@@ -28,7 +28,8 @@ pub fn plan<R: Source, K: Sink>(
         Writes result (pass_of_plan (bad_parameter raw.now) raw.now input).text (K.written sink.old) (K.written sink.new)) }
     ensures of_some_input { AppendsPrefixOfSome (λ input. (pass_of_plan (bad_parameter raw.now) raw.now input).text)
         (K.written sink.old) (K.written sink.new) }
-    ensures of_some_whole_input { result ≡ Outcome.Done → AppendsOfSome (λ input. (pass_of_plan (bad_parameter raw.now) raw.now input).text)
+    ensures of_some_whole_input { result ≡ Outcome.Done →
+        AppendsOfSome (λ input. (pass_of_plan (bad_parameter raw.now) raw.now input).text)
         (K.written sink.old) (K.written sink.new) }
     ensures whole_input { result ≡ Outcome.Done → IsAtEnd (R.left source.new) }
 
@@ -73,7 +74,8 @@ fn plan_valid<R: Source, K: Sink>(
         Writes result (pass_of_valid_plan (numbers_of params.now) input).text (K.written sink.old) (K.written sink.new)) }
     ensures of_some_input { AppendsPrefixOfSome (λ input. (pass_of_valid_plan (numbers_of params.now) input).text)
         (K.written sink.old) (K.written sink.new) }
-    ensures of_some_whole_input { result ≡ Outcome.Done → AppendsOfSome (λ input. (pass_of_valid_plan (numbers_of params.now) input).text)
+    ensures of_some_whole_input { result ≡ Outcome.Done →
+        AppendsOfSome (λ input. (pass_of_valid_plan (numbers_of params.now) input).text)
         (K.written sink.old) (K.written sink.new) }
     ensures whole_input { result ≡ Outcome.Done → IsAtEnd (R.left source.new) }
 

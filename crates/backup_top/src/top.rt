@@ -37,7 +37,8 @@ pub fn run<H: Threads + Sync, R: Source, K: Sink, F: Shelf>(
         Writes result (one_pass (texts_of words.now) input).text (K.written sink.old) (K.written sink.new)) }
     ensures of_some_input { AppendsPrefixOfSome (λ input. (one_pass (texts_of words.now) input).text)
         (K.written sink.old) (K.written sink.new) }
-    ensures of_some_whole_input { result ≡ Outcome.Done → AppendsOfSome (λ input. (one_pass (texts_of words.now) input).text)
+    ensures of_some_whole_input { result ≡ Outcome.Done →
+        AppendsOfSome (λ input. (one_pass (texts_of words.now) input).text)
         (K.written sink.old) (K.written sink.new) }
     ensures whole_input { result ≡ Outcome.Done → IsAtEnd (R.left source.new) }
 
@@ -92,7 +93,8 @@ pub fn run_quiet<H: Threads + Sync, R: Source, K: Sink, F: Shelf>(
         Writes result (pass_of_command (quiet command.now) input).text (K.written sink.old) (K.written sink.new)) }
     ensures of_some_input { AppendsPrefixOfSome (λ input. (pass_of_command (quiet command.now) input).text)
         (K.written sink.old) (K.written sink.new) }
-    ensures of_some_whole_input { result ≡ Outcome.Done → AppendsOfSome (λ input. (pass_of_command (quiet command.now) input).text)
+    ensures of_some_whole_input { result ≡ Outcome.Done →
+        AppendsOfSome (λ input. (pass_of_command (quiet command.now) input).text)
         (K.written sink.old) (K.written sink.new) }
     ensures whole_input { result ≡ Outcome.Done → IsAtEnd (R.left source.new) }
 
