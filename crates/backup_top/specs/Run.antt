@@ -28,8 +28,7 @@ Writes (BadParams kind) text before after = after ≡ before
 Writes InputTooLong text before after = after ≡ before
 Writes SourceFault text before after = after ≡ before
 
--- The text is that of a run on some input that is not too long, where each input has the text that `text_of` says. The
--- input is the bytes that were read, whether or not the source tells them.
+-- the text is that of a run on some input that is not too long, where each input has the text that `text_of` says
 abbrev pub IsTextOfSome : (List ℕ → List ℕ) → List ℕ → Type 0
 IsTextOfSome text_of text = (input : List ℕ) × (length input ≤ MAX_INPUT) × (text_of input ≡ text)
 

@@ -64,11 +64,11 @@ impl Book {
         ensures added { OnOk result (self.new ≡ with_record self.old entry) }
         ensures unchanged { OnErr result (self.new ≡ self.old) }
 
-        // It is the book that a replay with this record more gives.
+        // It is the book that a replay with this record more gives, where none of its recipes fails.
         ensures lawful { IsRecord entry }
         ensures replayed { OnOk result (IsReplayedOn self.old entry self.new) }
 
-        // A drop takes no memory.
+        // A drop is never refused.
         ensures drops { (session : ℕ) → entry ≡ Record.Drop session → IsOk result }
     {
         match entry {

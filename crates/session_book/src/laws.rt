@@ -7,7 +7,8 @@ pub fn no_spelling_begins_another()
     ensures { NoSpellingBeginsAnother }
 {}
 
-/// A book to which a record is added is the book that a replay gives with one more record.
+/// A book with a record that may follow is the book that a replay with one more record gives, where none of its recipes
+/// fails.
 pub fn adding_is_replaying()
     ensures { AddingIsReplaying }
 {}

@@ -8,10 +8,10 @@ pub const NUMBER_LEN: usize = 4;
 pub const DIGEST_LEN: usize = 32;
 
 // What a record has beside its body: the kind, the length of the body, and the digest.
-pub const AROUND_BODY: u32 = 1 + 4 + 32;
+pub const AROUND_BODY: u32 = 1 + (NUMBER_LEN + DIGEST_LEN) as u32;
 
 // A drop, whose body is a number.
-pub const DROP_LEN: u32 = AROUND_BODY + 4;
+pub const DROP_LEN: u32 = AROUND_BODY + NUMBER_LEN as u32;
 
 // A new chunk: its length and its name.
 pub const NEW_CHUNK_LEN: usize = NUMBER_LEN + DIGEST_LEN;

@@ -31,7 +31,7 @@ pub fn next_record(alloc: Global, bytes: &[u8]) -> Result<Step, OutOfMemory>
     ensures short { IfOk result (λ step. (step ≡ Step.Short) ↔ IsShort bytes.now) }
     ensures bad { IfOk result (λ step. (step ≡ Step.Bad) ↔ BeginsWithNone bytes.now) }
 
-    // Bytes that are short take no memory, and so do all that do not begin with a body and its own digest.
+    // Short bytes are never refused, and others only where a body stands at their front under its own digest.
     ensures at_once { IsShort bytes.now → result ≡ Ok Step.Short }
     ensures sealed { OnErr result (BeginsSealed bytes.now) }
 
