@@ -61,25 +61,25 @@ positions_of-replicate n bits =
 
 -- setting the bit of a position
 module _ (words : List ℕ) (p : ℕ) where
-  abbrev pub with_bit : List ℕ
-  with_bit = set words (p / 64) (bit_or (get_or words (p / 64) 0) (1 * 2 ^ (p % 64) % 2 ^ 64))
+  abbrev pub append_bit : List ℕ
+  append_bit = set words (p / 64) (bit_or (get_or words (p / 64) 0) (1 * 2 ^ (p % 64) % 2 ^ 64))
 
-  is_set-with_bit_same : p / 64 < length words → is_set with_bit p ≡ true
-  is_set-with_bit_same within =
-      let word : get_or with_bit (p / 64) 0 ≡ bit_or (get_or words (p / 64) 0) (1 * 2 ^ (p % 64) % 2 ^ 64) =
+  is_set-append_bit_same : p / 64 < length words → is_set append_bit p ≡ true
+  is_set-append_bit_same within =
+      let word : get_or append_bit (p / 64) 0 ≡ bit_or (get_or words (p / 64) 0) (1 * 2 ^ (p % 64) % 2 ^ 64) =
       get_or-set_same words (p / 64) _ 0 within in
-      let bit : bit_at (get_or with_bit (p / 64) 0) (p % 64) ≡ 1 =
+      let bit : bit_at (get_or append_bit (p / 64) 0) (p % 64) ≡ 1 =
       ap (λ x. bit_at x (p % 64)) word ∙ bit_at_set_same w64 (get_or words (p / 64) 0) (p % 64) (omega arith) in
       eq-eqb _ 1 bit
 
-  is_set-with_bit_other : p / 64 < length words → (q : ℕ) → (q ≡ p → ⊥) → is_set with_bit q ≡ is_set words q
-  is_set-with_bit_other within q other =
+  is_set-append_bit_other : p / 64 < length words → (q : ℕ) → (q ≡ p → ⊥) → is_set append_bit q ≡ is_set words q
+  is_set-append_bit_other within q other =
       elim (cases_eq (q / 64) (p / 64)) [
         | inl same ↦
             let place : q % 64 ≡ p % 64 → ⊥ = λ e. other (omega arith) in
-            let word : get_or with_bit (q / 64) 0 ≡ bit_or (get_or words (p / 64) 0) (1 * 2 ^ (p % 64) % 2 ^ 64) =
-            ap (λ i. get_or with_bit i 0) same ∙ get_or-set_same words (p / 64) _ 0 within in
-            let bit : bit_at (get_or with_bit (q / 64) 0) (q % 64) ≡ bit_at (get_or words (q / 64) 0) (q % 64) =
+            let word : get_or append_bit (q / 64) 0 ≡ bit_or (get_or words (p / 64) 0) (1 * 2 ^ (p % 64) % 2 ^ 64) =
+            ap (λ i. get_or append_bit i 0) same ∙ get_or-set_same words (p / 64) _ 0 within in
+            let bit : bit_at (get_or append_bit (q / 64) 0) (q % 64) ≡ bit_at (get_or words (q / 64) 0) (q % 64) =
             ap (λ x. bit_at x (q % 64)) word
             ∙ bit_at_set_other w64 (get_or words (p / 64) 0) (p % 64) (omega arith) (q % 64) place
             ∙ ap (λ i. bit_at (get_or words i 0) (q % 64)) (sym same) in
@@ -91,31 +91,31 @@ module _ (words : List ℕ) (p : ℕ) where
     within : p / 64 < length words
     within = word_within words bits p ok below
 
-    pub HoldsBits-with_bit : HoldsBits with_bit bits
-    HoldsBits-with_bit =
-        let len : length with_bit ≡ length words = length-set words (p / 64) _ in
+    pub HoldsBits-append_bit : HoldsBits append_bit bits
+    HoldsBits-append_bit =
+        let len : length append_bit ≡ length words = length-set words (p / 64) _ in
         record {
           enough = omega (arith, ok.enough);
           no_more = omega (arith, ok.no_more);
-          clear_above = λ q above. is_set-with_bit_other within q (λ e. omega arith) ∙ ok.clear_above q above;
+          clear_above = λ q above. is_set-append_bit_other within q (λ e. omega arith) ∙ ok.clear_above q above;
           in_range = ok.in_range;
         }
 
-    pub positions_of-with_bit : positions_of with_bit bits ≡ set (positions_of words bits) p true
+    pub positions_of-append_bit : positions_of append_bit bits ≡ set (positions_of words bits) p true
     unfolding positions_of
-    positions_of-with_bit =
+    positions_of-append_bit =
         let before : List Bool = map (is_set words) (range_with_len 0 bits) in
         let len : length before ≡ bits = length-map-range_with_len (is_set words) 0 bits in
-        sym (fill_by_all (is_set with_bit) (set before p true) bits false (length-set before p true ∙ len)
+        sym (fill_by_all (is_set append_bit) (set before p true) bits false (length-set before p true ∙ len)
         (λ k inside. elim (cases_eq k p) [
           | inl same ↦
               ap (λ i. get_or (set before p true) i false) same
               ∙ get_or-set_same before p true false (omega arith)
-              ∙ sym (ap (is_set with_bit) same ∙ is_set-with_bit_same within)
+              ∙ sym (ap (is_set append_bit) same ∙ is_set-append_bit_same within)
           | inr other ↦
               get_or-set_other before p k true false other
               ∙ get_or-map-range_with_len (is_set words) 0 bits k k false inside (omega arith)
-              ∙ sym (is_set-with_bit_other within k other)
+              ∙ sym (is_set-append_bit_other within k other)
         ]))
 
 -- the lowest bit of what is left when the bits below a place are shifted out

@@ -7,7 +7,7 @@ use Rattle.std.proofs.lemmas.List.Elements.{All-tail}
 use Rattle.std.proofs.lemmas.List.Folds.{concat-append}
 use Rattle.std.proofs.lemmas.Bool.Decides.{leb_tells}
 use Rattle.sd_base.specs.Packing.{header_of, packed_on, packing, ArePacked}
-use Rattle.sd_base.specs.declared.limits.TheConstants.{MAX_CONTAINER, LARGEST_MAX}
+use Rattle.sd_base.specs.declared.limits.TheConstants.{MAX_CONTAINER, MAX_CHUNK_LEN}
 use Rattle.container_pack.proofs.PackingLemmas.{Chunks, packed_on-fits, packed_on-opens}
 
 abbrev pub Groups : Type 0
@@ -78,7 +78,7 @@ one_more number first chunk group =
     ∙ ap (λ (l : List ℕ). header_of number ++ l) (sym (concat-append (first ∷ group) (chunk ∷ [])))
 
 pub grouped : (number : ℕ) (first : List ℕ) (group chunks : Chunks)
-    → length (header_of number ++ concat (first ∷ group)) ≤ MAX_CONTAINER → All (λ chunk. length chunk ≤ LARGEST_MAX) chunks
+    → length (header_of number ++ concat (first ∷ group)) ≤ MAX_CONTAINER → All (λ chunk. length chunk ≤ MAX_CHUNK_LEN) chunks
     → Grouped number first group chunks
 grouped number first group [] fits bounded = record {
   groups = (first ∷ group) ∷ [];
@@ -92,7 +92,7 @@ grouped number first group (chunk ∷ chunks) fits bounded =
       | inl room ↦
           let longer : open_one ++ chunk ≡ header_of number ++ concat (first ∷ group ++ chunk ∷ []) = one_more number first chunk group in
           let still : length (header_of number ++ concat (first ∷ group ++ chunk ∷ [])) ≤ MAX_CONTAINER = subst (λ (l : List ℕ). length l ≤ MAX_CONTAINER) longer (omega (arith, room.1, length-append open_one chunk)) in
-          let there = grouped number first (group ++ chunk ∷ []) chunks still (All-tail (λ (c : List ℕ). length c ≤ LARGEST_MAX) chunk chunks bounded) in
+          let there = grouped number first (group ++ chunk ∷ []) chunks still (All-tail (λ (c : List ℕ). length c ≤ MAX_CHUNK_LEN) chunk chunks bounded) in
           record {
             groups = there.groups;
             all_of_them = there.all_of_them ∙ ap (λ (l : Chunks). first ∷ l) (append_assoc group (chunk ∷ []) chunks);
@@ -104,7 +104,7 @@ grouped number first group (chunk ∷ chunks) fits bounded =
           let next : List ℕ = header_of (number + 1) in
           let alone : next ++ chunk ≡ next ++ concat (chunk ∷ []) = ap (λ (l : List ℕ). next ++ l) (sym (append-nil chunk)) in
           let short : length (next ++ concat (chunk ∷ [])) ≤ MAX_CONTAINER = subst (λ (l : List ℕ). length l ≤ MAX_CONTAINER) alone (omega (arith, bounded 0 [] (omega arith), length-append next chunk)) in
-          let there = grouped (number + 1) chunk [] chunks short (All-tail (λ (c : List ℕ). length c ≤ LARGEST_MAX) chunk chunks bounded) in
+          let there = grouped (number + 1) chunk [] chunks short (All-tail (λ (c : List ℕ). length c ≤ MAX_CHUNK_LEN) chunk chunks bounded) in
           let full : MAX_CONTAINER < length open_one + length (get_or (get_or there.groups 0 []) 0 []) =
           subst (λ (l : List ℕ). MAX_CONTAINER < length open_one + length l) (sym there.first_one) none.1 in
           record {
@@ -135,13 +135,13 @@ nothing_packed = record {
   full = λ k inside. absurd (omega arith);
 }
 
-pub packing-by_groups : (chunks : Chunks) → All (λ chunk. length chunk ≤ LARGEST_MAX) chunks
+pub packing-by_groups : (chunks : Chunks) → All (λ chunk. length chunk ≤ MAX_CHUNK_LEN) chunks
     → (groups : Groups) × (flat_map (λ group. group) groups ≡ chunks) × ArePacked groups (packing chunks)
 packing-by_groups [] bounded = ([], refl, nothing_packed)
 packing-by_groups (chunk ∷ chunks) bounded =
     let alone : header_of 0 ++ chunk ≡ header_of 0 ++ concat (chunk ∷ []) = ap (λ (l : List ℕ). header_of 0 ++ l) (sym (append-nil chunk)) in
     let short : length (header_of 0 ++ concat (chunk ∷ [])) ≤ MAX_CONTAINER = subst (λ (l : List ℕ). length l ≤ MAX_CONTAINER) alone (omega (arith, bounded 0 [] (omega arith), length-append (header_of 0) chunk)) in
-    let g = grouped 0 chunk [] chunks short (All-tail (λ (c : List ℕ). length c ≤ LARGEST_MAX) chunk chunks bounded) in (
+    let g = grouped 0 chunk [] chunks short (All-tail (λ (c : List ℕ). length c ≤ MAX_CHUNK_LEN) chunk chunks bounded) in (
       g.groups,
       g.all_of_them,
       ArePacked-from g.groups (packing (chunk ∷ chunks))

@@ -2,7 +2,7 @@
 use Rattle.std.specs.Prelude.{◌≡◌, ℕ, ◌≤◌, List, ◌++◌, length, map, All}
 use Rattle.std.specs.List.{flat_map}
 use Rattle.sd_base.specs.Packing.{packing, ArePacked, ArePrefixes}
-use Rattle.sd_base.specs.declared.limits.TheConstants.{LARGEST_MAX}
+use Rattle.sd_base.specs.declared.limits.TheConstants.{MAX_CHUNK_LEN}
 use Rattle.container_pack.specs.Spots.{spots_of, LieAt}
 
 -- a longer list of chunks has the containers of a shorter one, longer ones in their place, and more
@@ -18,5 +18,5 @@ ChunksLieAtTheirSpots =
 -- the containers of chunks that are not too long are those of some groups of the chunks in order
 abbrev pub PackingIsByGroups : Type 0
 PackingIsByGroups =
-    (chunks : List (List ℕ)) → All (λ chunk. length chunk ≤ LARGEST_MAX) chunks →
+    (chunks : List (List ℕ)) → All (λ chunk. length chunk ≤ MAX_CHUNK_LEN) chunks →
     (groups : List (List (List ℕ))) × (flat_map (λ group. group) groups ≡ chunks) × ArePacked groups (packing chunks)

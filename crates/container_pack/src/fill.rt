@@ -3,7 +3,7 @@ ghost use Rattle.std.specs.Prelude.{◌≡◌, ◌+◌, ◌-◌, ◌<◌, ◌≤
 ghost use Rattle.container_pack.specs.Spots.{nothing_filled, filled_by, last_spot, IsSound};
 
 use crate::Spot;
-use sd_base::{CONTAINER_HEADER, LARGEST_MAX, MAX_CONTAINER};
+use sd_base::{CONTAINER_HEADER, MAX_CHUNK_LEN, MAX_CONTAINER};
 
 /// How many containers there are, and the bytes of the last of them. Where there is none, the next chunk opens one, as
 /// behind a full one.
@@ -28,7 +28,7 @@ impl Fill {
     pub(crate) fn with_chunk(self, length: u32) -> Self
         requires sound { IsSound self }
         requires some { 1 ≤ length }
-        requires bounded { length ≤ LARGEST_MAX }
+        requires bounded { length ≤ MAX_CHUNK_LEN }
         requires containers { self.containers < 2 ^ 32 - 1 }
 
         ensures filled { result ≡ filled_by self length }

@@ -12,7 +12,7 @@ ghost use Rattle.container_pack.specs.Containers.{Begins, HasOnly, ContainersBeg
 use crate::Spot;
 use crate::fill::Fill;
 use edge_traits::{EdgeFault, File, Shelf};
-use sd_base::{LARGEST_MAX, MAX_CHUNKS};
+use sd_base::{MAX_CHUNK_LEN, MAX_CHUNKS};
 
 /// Appends chunks to the containers of a generation. It stands behind the chunks that are there already and knows them by
 /// their lengths alone. Defined by this project.
@@ -37,7 +37,7 @@ impl Packer {
     /// A packer behind chunks of these lengths, which are there. It takes no memory and has touched no file.
     pub fn resume(generation: u32, lengths: &[u32]) -> Self
         requires some { All (λ n. 1 ≤ n) lengths.now }
-        requires bounded { All (λ n. n ≤ LARGEST_MAX) lengths.now }
+        requires bounded { All (λ n. n ≤ MAX_CHUNK_LEN) lengths.now }
         requires few { length lengths.now ≤ MAX_CHUNKS }
 
         ensures generation { generation_of result ≡ generation }
@@ -68,7 +68,7 @@ impl Packer {
     /// shelf's count of faults rose.
     pub fn append_chunk<F: Shelf>(&mut self, shelf: &mut F, chunk: &[u8]) -> Result<Spot, EdgeFault>
         requires some { 1 ≤ length chunk.now }
-        requires bounded { length chunk.now ≤ LARGEST_MAX }
+        requires bounded { length chunk.now ≤ MAX_CHUNK_LEN }
         requires few { chunk_count self.old < MAX_CHUNKS }
 
         ensures generation { generation_of self.new ≡ generation_of self.old }
@@ -142,7 +142,7 @@ impl Packer {
     /// Where a chunk of this length lies that is appended next.
     fn next_spot(&self, length: u32) -> Spot
         requires some { 1 ≤ length }
-        requires bounded { length ≤ LARGEST_MAX }
+        requires bounded { length ≤ MAX_CHUNK_LEN }
         requires few { chunk_count self.now < MAX_CHUNKS }
         ensures { result ≡ next_spot self.now length }
     {

@@ -5,13 +5,13 @@ ghost use Rattle.container_pack.specs.Spots.{spots_of, LieAt};
 
 use crate::Spot;
 use crate::fill::Fill;
-use sd_base::{LARGEST_MAX, MAX_CHUNKS, OutOfMemory};
+use sd_base::{MAX_CHUNK_LEN, MAX_CHUNKS, OutOfMemory};
 use std::alloc::Global;
 
 /// Where each chunk lies, by the lengths of the chunks alone. Defined by this project.
 pub fn places(alloc: Global, lengths: &[u32]) -> Result<Vec<Spot>, OutOfMemory>
     requires some { All (λ n. 1 ≤ n) lengths.now }
-    requires bounded { All (λ n. n ≤ LARGEST_MAX) lengths.now }
+    requires bounded { All (λ n. n ≤ MAX_CHUNK_LEN) lengths.now }
     requires few { length lengths.now ≤ MAX_CHUNKS }
 
     ensures spots { IfOk result (λ spots. spots.items ≡ spots_of lengths.now) }

@@ -1,10 +1,10 @@
 use crate::{Packer, Spot, places, read_chunk};
 use edge_traits::{EdgeFault, File, MemShelf, Shelf, ShelfFail};
-use sd_base::{LARGEST_MAX, MAX_CONTAINER};
+use sd_base::{MAX_CHUNK_LEN, MAX_CONTAINER};
 use std::alloc::AllocError;
 use std::test::Fail;
 
-const LONGEST: u32 = LARGEST_MAX;
+const LONGEST: u32 = MAX_CHUNK_LEN;
 
 /// A shelf of which these calls fail.
 fn shelf_with(rt: &HostRuntime, failing: &[ShelfFail]) -> Result<MemShelf, AllocError> {

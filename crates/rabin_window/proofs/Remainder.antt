@@ -7,7 +7,7 @@ use Rattle.std.specs.Int.Bits.{xor_assoc, xor_comm, xor_self, xor_zero_r, xor_bl
 use Rattle.std.specs.List.{fold}
 use Rattle.std.proofs.lemmas.Bool.{cases_eq, ne_eqb}
 use Rattle.std.proofs.lemmas.Nat.Bits.{bit_at_xor, bit_at-lt, bit_at_above}
-use Rattle.sd_base.specs.Polynomial.{degree, reduced, with_bit}
+use Rattle.sd_base.specs.Polynomial.{degree, reduced, append_bit}
 use Rattle.rabin_window.proofs.Degree.{reduced_below, longer_below}
 
 -- ---- exclusive or
@@ -65,16 +65,16 @@ longer_xor r s a b few_a few_b =
     let turned : 2 * bit_xor r s + bit_xor a b ≡ bit_xor r s * 2 + bit_xor a b = omega arith in
     turned ∙ sym sum ∙ ap₂ bit_xor left right
 
-pub with_bit_xor : (p r s a b : ℕ) → a < 2 → b < 2
-    → with_bit p (bit_xor r s) (bit_xor a b) ≡ bit_xor (with_bit p r a) (with_bit p s b)
-with_bit_xor p r s a b few_a few_b = ap (reduced p) (longer_xor r s a b few_a few_b) ∙ reduced_xor p (2 * r + a) (2 * s + b)
+pub append_bit_xor : (p r s a b : ℕ) → a < 2 → b < 2
+    → append_bit p (bit_xor r s) (bit_xor a b) ≡ bit_xor (append_bit p r a) (append_bit p s b)
+append_bit_xor p r s a b few_a few_b = ap (reduced p) (longer_xor r s a b few_a few_b) ∙ reduced_xor p (2 * r + a) (2 * s + b)
 
-pub with_bit_below : (p r b : ℕ) → 0 < p → p < 2 ^ 64 → r < 2 ^ degree p → b < 2 → with_bit p r b < 2 ^ degree p
-with_bit_below p r b pos fits below few = reduced_below p (2 * r + b) pos fits (longer_below (degree p) r b below few)
+pub append_bit_below : (p r b : ℕ) → 0 < p → p < 2 ^ 64 → r < 2 ^ degree p → b < 2 → append_bit p r b < 2 ^ degree p
+append_bit_below p r b pos fits below few = reduced_below p (2 * r + b) pos fits (longer_below (degree p) r b below few)
 
 -- a bit more, where the degree is not reached
-with_bit_small : (p r b : ℕ) → 2 * r + b < 2 ^ degree p → with_bit p r b ≡ 2 * r + b
-with_bit_small p r b small =
+append_bit_small : (p r b : ℕ) → 2 * r + b < 2 ^ degree p → append_bit p r b ≡ 2 * r + b
+append_bit_small p r b small =
     let clear = bit_at_above (2 * r + b) (degree p) (degree p) small (omega arith) in
     reduced_clear p (2 * r + b) (λ set. omega arith)
 
@@ -92,20 +92,20 @@ xor_bits (x ∷ xs) (y ∷ ys) = bit_xor x y ∷ xor_bits xs ys
 
 -- the remainder of an exclusive or, from any two remainders on
 pub additive : (p r s : ℕ) (xs ys : List ℕ) → AllBits xs → AllBits ys → length xs ≡ length ys
-    → fold (with_bit p) (bit_xor r s) (xor_bits xs ys) ≡ bit_xor (fold (with_bit p) r xs) (fold (with_bit p) s ys)
+    → fold (append_bit p) (bit_xor r s) (xor_bits xs ys) ≡ bit_xor (fold (append_bit p) r xs) (fold (append_bit p) s ys)
 unfolding xor_bits
 additive p r s [] [] bits_x bits_y same = refl
 additive p r s [] (y ∷ ys) bits_x bits_y same = absurd (omega arith)
 additive p r s (x ∷ xs) [] bits_x bits_y same = absurd (omega arith)
 additive p r s (x ∷ xs) (y ∷ ys) bits_x bits_y same =
-    ap (λ t. fold (with_bit p) t (xor_bits xs ys)) (with_bit_xor p r s x y bits_x.0 bits_y.0)
-    ∙ additive p (with_bit p r x) (with_bit p s y) xs ys bits_x.1 bits_y.1 (omega arith)
+    ap (λ t. fold (append_bit p) t (xor_bits xs ys)) (append_bit_xor p r s x y bits_x.0 bits_y.0)
+    ∙ additive p (append_bit p r x) (append_bit p s y) xs ys bits_x.1 bits_y.1 (omega arith)
 
 -- a remainder is below the power of the degree
-pub remainder_below : (p r : ℕ) (xs : List ℕ) → 0 < p → p < 2 ^ 64 → AllBits xs → r < 2 ^ degree p → fold (with_bit p) r xs < 2 ^ degree p
+pub remainder_below : (p r : ℕ) (xs : List ℕ) → 0 < p → p < 2 ^ 64 → AllBits xs → r < 2 ^ degree p → fold (append_bit p) r xs < 2 ^ degree p
 remainder_below p r [] pos fits bits below = below
 remainder_below p r (x ∷ xs) pos fits bits below =
-    remainder_below p (with_bit p r x) xs pos fits bits.1 (with_bit_below p r x pos fits below bits.0)
+    remainder_below p (append_bit p r x) xs pos fits bits.1 (append_bit_below p r x pos fits below bits.0)
 
 -- the number that a bit string spells behind a number
 abbrev pub spelled : ℕ → List ℕ → ℕ
@@ -117,8 +117,8 @@ spelled_grows r [] = omega arith
 spelled_grows r (x ∷ xs) = omega (arith, spelled_grows (2 * r + x) xs)
 
 -- what is below the power of the degree is its own remainder
-pub own_remainder : (p r : ℕ) (xs : List ℕ) → spelled r xs < 2 ^ degree p → fold (with_bit p) r xs ≡ spelled r xs
+pub own_remainder : (p r : ℕ) (xs : List ℕ) → spelled r xs < 2 ^ degree p → fold (append_bit p) r xs ≡ spelled r xs
 own_remainder p r [] small = refl
 own_remainder p r (x ∷ xs) small =
     let first : 2 * r + x < 2 ^ degree p = omega (arith, spelled_grows (2 * r + x) xs) in
-    ap (λ t. fold (with_bit p) t xs) (with_bit_small p r x first) ∙ own_remainder p (2 * r + x) xs small
+    ap (λ t. fold (append_bit p) t xs) (append_bit_small p r x first) ∙ own_remainder p (2 * r + x) xs small

@@ -7,8 +7,8 @@ use Rattle.std.specs.List.{fold}
 use Rattle.std.proofs.lemmas.List.Sums.{fold-append}
 use Rattle.std.proofs.lemmas.Nat.{pow_pos, pow-add, shr_split, mod_below, shl_below, shl_whole, shr_below, and_mask, or_shifted, xor_lt}
 use Rattle.sd_base.specs.Parameters.{IsPolynomial}
-use Rattle.sd_base.specs.Polynomial.{degree, with_bit, fingerprint}
-use Rattle.rabin_window.specs.Division.{byte_bits, with_byte}
+use Rattle.sd_base.specs.Polynomial.{degree, append_bit, fingerprint}
+use Rattle.rabin_window.specs.Division.{byte_bits, append_byte}
 use Rattle.rabin_window.specs.Tables.{leaving_entry, appending_entry, AreTables}
 use Rattle.rabin_window.proofs.Bits.{AllBits-byte_bits, length-byte_bits, xor_zero_byte, spelled-byte_bits}
 use Rattle.rabin_window.proofs.Degree.{degree_place}
@@ -17,52 +17,52 @@ use Rattle.rabin_window.proofs.Remainder.{xor_twice, additive, remainder_below, 
 
 -- ---- one byte
 
-pub with_byte_xor : (p r s b : ℕ) → with_byte p (bit_xor r s) b ≡ bit_xor (with_byte p r 0) (with_byte p s b)
-unfolding with_byte
-with_byte_xor p r s b =
-    ap (fold (with_bit p) (bit_xor r s)) (sym (xor_zero_byte b))
+pub append_byte_xor : (p r s b : ℕ) → append_byte p (bit_xor r s) b ≡ bit_xor (append_byte p r 0) (append_byte p s b)
+unfolding append_byte
+append_byte_xor p r s b =
+    ap (fold (append_bit p) (bit_xor r s)) (sym (xor_zero_byte b))
     ∙ additive p r s (byte_bits 0) (byte_bits b) (AllBits-byte_bits 0) (AllBits-byte_bits b)
     (length-byte_bits 0 ∙ sym (length-byte_bits b))
 
-pub with_byte_below : (p r b : ℕ) → 0 < p → p < 2 ^ 64 → r < 2 ^ degree p → with_byte p r b < 2 ^ degree p
-unfolding with_byte
-with_byte_below p r b pos fits below = remainder_below p r (byte_bits b) pos fits (AllBits-byte_bits b) below
+pub append_byte_below : (p r b : ℕ) → 0 < p → p < 2 ^ 64 → r < 2 ^ degree p → append_byte p r b < 2 ^ degree p
+unfolding append_byte
+append_byte_below p r b pos fits below = remainder_below p r (byte_bits b) pos fits (AllBits-byte_bits b) below
 
-pub with_byte_small : (p r b : ℕ) → b < 256 → r * 256 + b < 2 ^ degree p → with_byte p r b ≡ r * 256 + b
-unfolding with_byte
-with_byte_small p r b few small =
+pub append_byte_small : (p r b : ℕ) → b < 256 → r * 256 + b < 2 ^ degree p → append_byte p r b ≡ r * 256 + b
+unfolding append_byte
+append_byte_small p r b few small =
     let e = spelled-byte_bits r b few in
     own_remainder p r (byte_bits b) (subst (λ x. x < 2 ^ degree p) (sym e) small) ∙ e
 
 -- ---- many bytes
 
-pub bytes_below : (p r : ℕ) (xs : List ℕ) → 0 < p → p < 2 ^ 64 → r < 2 ^ degree p → fold (with_byte p) r xs < 2 ^ degree p
+pub bytes_below : (p r : ℕ) (xs : List ℕ) → 0 < p → p < 2 ^ 64 → r < 2 ^ degree p → fold (append_byte p) r xs < 2 ^ degree p
 bytes_below p r [] pos fits below = below
-bytes_below p r (x ∷ xs) pos fits below = bytes_below p (with_byte p r x) xs pos fits (with_byte_below p r x pos fits below)
+bytes_below p r (x ∷ xs) pos fits below = bytes_below p (append_byte p r x) xs pos fits (append_byte_below p r x pos fits below)
 
 -- what stands before bytes adds to their remainder what it would be behind as many zero bytes
 pub bytes_xor : (p r s : ℕ) (xs : List ℕ)
-    → fold (with_byte p) (bit_xor r s) xs ≡ bit_xor (fold (with_byte p) r (replicate (length xs) 0)) (fold (with_byte p) s xs)
+    → fold (append_byte p) (bit_xor r s) xs ≡ bit_xor (fold (append_byte p) r (replicate (length xs) 0)) (fold (append_byte p) s xs)
 bytes_xor p r s [] = refl
 bytes_xor p r s (x ∷ xs) =
-    ap (λ t. fold (with_byte p) t xs) (with_byte_xor p r s x) ∙ bytes_xor p (with_byte p r 0) (with_byte p s x) xs
+    ap (λ t. fold (append_byte p) t xs) (append_byte_xor p r s x) ∙ bytes_xor p (append_byte p r 0) (append_byte p s x) xs
 
 -- ---- the oldest byte leaves
 
 without_oldest : (p out : ℕ) (window : List ℕ) → length window ≡ 48 → get_or window 0 0 ≡ out
-    → bit_xor (fold (with_byte p) 0 window) (leaving_entry p out) ≡ fold (with_byte p) 0 (drop 1 window)
+    → bit_xor (fold (append_byte p) 0 window) (leaving_entry p out) ≡ fold (append_byte p) 0 (drop 1 window)
 unfolding leaving_entry
 without_oldest p out [] size oldest = absurd (omega arith)
 without_oldest p out (x ∷ rest) size oldest =
-    let first = with_byte p 0 x in
-    let behind = fold (with_byte p) first (replicate 47 0) in
-    let left = fold (with_byte p) 0 rest in
+    let first = append_byte p 0 x in
+    let behind = fold (append_byte p) first (replicate 47 0) in
+    let left = fold (append_byte p) 0 rest in
     let many : length rest ≡ 47 = omega arith in
-    let parts : fold (with_byte p) first rest ≡ bit_xor behind left =
-    ap (λ t. fold (with_byte p) t rest) (sym (xor_zero_r first)) ∙ bytes_xor p first 0 rest
-    ∙ ap (λ n. bit_xor (fold (with_byte p) first (replicate n 0)) left) many in
-    let same : behind ≡ fold (with_byte p) (with_byte p 0 out) (replicate 47 0) =
-    ap (λ b. fold (with_byte p) (with_byte p 0 b) (replicate 47 0)) oldest in
+    let parts : fold (append_byte p) first rest ≡ bit_xor behind left =
+    ap (λ t. fold (append_byte p) t rest) (sym (xor_zero_r first)) ∙ bytes_xor p first 0 rest
+    ∙ ap (λ n. bit_xor (fold (append_byte p) first (replicate n 0)) left) many in
+    let same : behind ≡ fold (append_byte p) (append_byte p 0 out) (replicate 47 0) =
+    ap (λ b. fold (append_byte p) (append_byte p 0 b) (replicate 47 0)) oldest in
     ap₂ bit_xor (parts ∙ xor_comm behind left) (sym same) ∙ xor_twice left behind
 
 pub kept_is : (p out : ℕ) (window : List ℕ) → length window ≡ 48 → get_or window 0 0 ≡ out
@@ -74,7 +74,7 @@ kept_is p out window size oldest =
 -- ---- a byte is appended
 
 pub appended_is : (p k r b : ℕ) → k + 8 ≡ degree p → b < 256
-    → bit_xor (r % 2 ^ k * 256 + b) (appending_entry p (r / 2 ^ k)) ≡ with_byte p r b
+    → bit_xor (r % 2 ^ k * 256 + b) (appending_entry p (r / 2 ^ k)) ≡ append_byte p r b
 unfolding appending_entry
 appended_is p k r b is few =
     let high = r / 2 ^ k * 2 ^ k in
@@ -83,22 +83,22 @@ appended_is p k r b is few =
     let power : 2 ^ degree p ≡ 2 ^ k * 256 = ap (λ d. 2 ^ d) (sym is) ∙ pow-add 2 k 8 in
     let small : low * 256 + b < 2 ^ degree p = omega arith in
     let place : degree p - 8 ≡ k = omega arith in
-    let entry : with_byte p (r / 2 ^ k * 2 ^ (degree p - 8)) 0 ≡ with_byte p high 0 =
-    ap (λ d. with_byte p (r / 2 ^ k * 2 ^ d) 0) place in
-    ap₂ bit_xor (sym (with_byte_small p low b few small)) entry
-    ∙ xor_comm (with_byte p low b) (with_byte p high 0) ∙ sym (with_byte_xor p high low b)
-    ∙ ap (λ t. with_byte p t b) (xor_shifted (r / 2 ^ k) k low low_few ∙ shr_split r k)
+    let entry : append_byte p (r / 2 ^ k * 2 ^ (degree p - 8)) 0 ≡ append_byte p high 0 =
+    ap (λ d. append_byte p (r / 2 ^ k * 2 ^ d) 0) place in
+    ap₂ bit_xor (sym (append_byte_small p low b few small)) entry
+    ∙ xor_comm (append_byte p low b) (append_byte p high 0) ∙ sym (append_byte_xor p high low b)
+    ∙ ap (λ t. append_byte p t b) (xor_shifted (r / 2 ^ k) k low low_few ∙ shr_split r k)
 
-pub fingerprint_push : (p : ℕ) (xs : List ℕ) (b : ℕ) → fingerprint p (xs ++ b ∷ []) ≡ with_byte p (fingerprint p xs) b
+pub fingerprint_push : (p : ℕ) (xs : List ℕ) (b : ℕ) → fingerprint p (xs ++ b ∷ []) ≡ append_byte p (fingerprint p xs) b
 fingerprint_push p xs b =
-    fingerprint_by_bytes p (xs ++ b ∷ []) ∙ fold-append (with_byte p) 0 xs (b ∷ [])
-    ∙ ap (λ t. with_byte p t b) (sym (fingerprint_by_bytes p xs))
+    fingerprint_by_bytes p (xs ++ b ∷ []) ∙ fold-append (append_byte p) 0 xs (b ∷ [])
+    ∙ ap (λ t. append_byte p t b) (sym (fingerprint_by_bytes p xs))
 
 -- what the oldest byte adds is a remainder
 pub leaving_entry_below : (p b : ℕ) → 0 < p → p < 2 ^ 64 → leaving_entry p b < 2 ^ degree p
 unfolding leaving_entry
 leaving_entry_below p b pos fits =
-    bytes_below p (with_byte p 0 b) (replicate 47 0) pos fits (with_byte_below p 0 b pos fits (pow_pos (degree p)))
+    bytes_below p (append_byte p 0 b) (replicate 47 0) pos fits (append_byte_below p 0 b pos fits (pow_pos (degree p)))
 
 -- ---- the entries, as the code makes them
 
@@ -112,11 +112,11 @@ module _ (p k b : ℕ) (is : k + 8 ≡ degree p) (pos : 0 < p) (fits : p < 2 ^ 6
       let whole : 8 + k ≡ degree p = omega arith in
       subst (λ x. x < 2 ^ degree p) (sym shifted_whole) (subst (λ d. b * 2 ^ k < 2 ^ d) whole (shl_below b 8 k few))
 
-  pub shifted_entry : with_byte p (b * 2 ^ k % 18446744073709551616) 0 ≡ appending_entry p b
+  pub shifted_entry : append_byte p (b * 2 ^ k % 18446744073709551616) 0 ≡ appending_entry p b
   unfolding appending_entry
   shifted_entry =
       let place : k ≡ degree p - 8 = omega arith in
-      ap (λ x. with_byte p x 0) shifted_whole ∙ ap (λ d. with_byte p (b * 2 ^ d) 0) place
+      ap (λ x. append_byte p x 0) shifted_whole ∙ ap (λ d. append_byte p (b * 2 ^ d) 0) place
 
 -- ---- the step, as the code takes it
 
@@ -129,7 +129,7 @@ module _ (p k mask r b : ℕ) (is : k + 8 ≡ degree p) (within : degree p < 64)
       ap (λ x. bit_or (x * 256 % 18446744073709551616) b) masked
       ∙ ap (λ x. bit_or x b) (shl_whole (r % 2 ^ k) k 8 64 below (omega arith)) ∙ or_shifted (r % 2 ^ k) 8 b few
 
-  pub step_is : bit_xor (bit_or (bit_and r mask * 256 % 18446744073709551616) b) (appending_entry p (r / 2 ^ k)) ≡ with_byte p r b
+  pub step_is : bit_xor (bit_or (bit_and r mask * 256 % 18446744073709551616) b) (appending_entry p (r / 2 ^ k)) ≡ append_byte p r b
   step_is = ap (λ x. bit_xor x (appending_entry p (r / 2 ^ k))) low_is ∙ appended_is p k r b is few
 
 -- ---- the step by tables, as the code takes it; `out'` and `inn'` are the bytes as it has them
@@ -158,7 +158,7 @@ module _ {p k mask : ℕ} {leaving appending : List ℕ} (tables : AreTables p k
       shr_below (kept leaving value out') 8 k
       (subst (λ d. kept leaving value out' < 2 ^ d) turned (kept_below value out out' out_is few below))
 
-  appended_by_table : (r inn inn' : ℕ) → r / 2 ^ k < 256 → inn' ≡ inn → inn < 256 → appended appending k mask r inn' ≡ with_byte p r inn
+  appended_by_table : (r inn inn' : ℕ) → r / 2 ^ k < 256 → inn' ≡ inn → inn < 256 → appended appending k mask r inn' ≡ append_byte p r inn
   appended_by_table r inn inn' high inn_is few =
       let place = degree_place p (omega arith) valid.1 in
       ap (bit_xor (bit_or (bit_and r mask * 256 % 18446744073709551616) inn')) (tables.appends (r / 2 ^ k) high)
@@ -167,17 +167,17 @@ module _ {p k mask : ℕ} {leaving appending : List ℕ} (tables : AreTables p k
 
   module _ (value out out' inn inn' : ℕ) (out_is : out' ≡ out) (inn_is : inn' ≡ inn) (few_out : out < 256) (few_inn : inn < 256)
       (below : value < 2 ^ degree p) where
-    moved_is : appended appending k mask (kept leaving value out') inn' ≡ with_byte p (kept leaving value out') inn
+    moved_is : appended appending k mask (kept leaving value out') inn' ≡ append_byte p (kept leaving value out') inn
     moved_is = appended_by_table (kept leaving value out') inn inn' (high_below value out out' out_is few_out below) inn_is few_inn
 
     pub rolled : (window : List ℕ) → length window ≡ 48 → get_or window 0 0 ≡ out → value ≡ fingerprint p window
         → appended appending k mask (kept leaving value out') inn' ≡ fingerprint p (drop 1 window ++ inn ∷ [])
     rolled window size oldest value_is =
         moved_is
-        ∙ ap (λ t. with_byte p t inn) (ap₂ bit_xor value_is (leaves_is out out' out_is few_out) ∙ kept_is p out window size oldest)
+        ∙ ap (λ t. append_byte p t inn) (ap₂ bit_xor value_is (leaves_is out out' out_is few_out) ∙ kept_is p out window size oldest)
         ∙ sym (fingerprint_push p (drop 1 window) inn)
 
     pub rolled_below : appended appending k mask (kept leaving value out') inn' < 2 ^ degree p
     rolled_below =
         subst (λ x. x < 2 ^ degree p) (sym moved_is)
-        (with_byte_below p (kept leaving value out') inn (omega arith) valid.1 (kept_below value out out' out_is few_out below))
+        (append_byte_below p (kept leaving value out') inn (omega arith) valid.1 (kept_below value out out' out_is few_out below))

@@ -3,7 +3,7 @@
 use Rattle.std.specs.Prelude.{◌≡◌, ℕ, ◌+◌, ◌-◌, ◌*◌, ◌^◌, ◌<◌, List, replicate, slice_index}
 use Rattle.std.specs.List.{fold}
 use Rattle.sd_base.specs.Polynomial.{degree}
-use Rattle.rabin_window.specs.Division.{with_byte}
+use Rattle.rabin_window.specs.Division.{append_byte}
 
 -- tables, as contracts see them: by the polynomial that they were made for
 pub record Divides : Type 0 where
@@ -11,11 +11,11 @@ pub record Divides : Type 0 where
 
 -- what the oldest byte of a window adds to the window's remainder: its own with 47 zero bytes behind it
 unfoldable pub leaving_entry : ℕ → ℕ → ℕ
-leaving_entry p b = fold (with_byte p) (with_byte p 0 b) (replicate 47 0)
+leaving_entry p b = fold (append_byte p) (append_byte p 0 b) (replicate 47 0)
 
 -- what the highest eight bits of a remainder become when a zero byte is appended
 unfoldable pub appending_entry : ℕ → ℕ → ℕ
-appending_entry p b = with_byte p (b * 2 ^ (degree p - 8)) 0
+appending_entry p b = append_byte p (b * 2 ^ (degree p - 8)) 0
 
 -- the tables of a polynomial, with the number of the remainder's bits that are not its highest eight, and their mask
 pub record AreTables (p shift low_mask : ℕ) (leaving appending : List ℕ) : Type 0 where

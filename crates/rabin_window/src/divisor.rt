@@ -1,7 +1,7 @@
 ghost use Rattle.std.specs.Prelude.{◌≡◌, ◌^◌, ◌<◌, ℕ};
 ghost use Rattle.sd_base.specs.Parameters.{IsPolynomial};
-ghost use Rattle.sd_base.specs.Polynomial.{degree, with_bit, fingerprint};
-ghost use Rattle.rabin_window.specs.Division.{with_byte};
+ghost use Rattle.sd_base.specs.Polynomial.{degree, append_bit, fingerprint};
+ghost use Rattle.rabin_window.specs.Division.{append_byte};
 
 use sd_base::Params;
 
@@ -27,10 +27,10 @@ impl Divisor {
     }
 
     // The remainder of a bit string, from that of the string without its last bit.
-    fn with_bit(self, remainder: u64, bit: u64) -> u64
+    fn append_bit(self, remainder: u64, bit: u64) -> u64
         requires reduced { remainder < 2 ^ degree self.polynomial }
         requires one_bit { bit < 2 }
-        ensures divided { result ≡ with_bit self.polynomial remainder bit }
+        ensures divided { result ≡ append_bit self.polynomial remainder bit }
         ensures reduced { result < 2 ^ degree self.polynomial }
     {
         let longer = 2 * remainder + bit;
@@ -42,14 +42,14 @@ impl Divisor {
     }
 
     /// The remainder of bytes, from that of the bytes without the last of them. The high bit of a byte comes first.
-    pub fn with_byte(self, remainder: u64, byte: u8) -> u64
+    pub fn append_byte(self, remainder: u64, byte: u8) -> u64
         requires reduced { remainder < 2 ^ degree self.polynomial }
-        ensures divided { result ≡ with_byte self.polynomial remainder byte }
+        ensures divided { result ≡ append_byte self.polynomial remainder byte }
         ensures reduced { result < 2 ^ degree self.polynomial }
     {
         let mut divided = remainder;
         for i in 0..8u32 {
-            divided = self.with_bit(divided, u64::from((byte >> (7 - i)) % 2));
+            divided = self.append_bit(divided, u64::from((byte >> (7 - i)) % 2));
         }
         divided
     }
@@ -61,7 +61,7 @@ impl Divisor {
     {
         let mut divided = 0;
         for byte in bytes {
-            divided = self.with_byte(divided, *byte);
+            divided = self.append_byte(divided, *byte);
         }
         divided
     }

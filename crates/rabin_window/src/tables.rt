@@ -103,7 +103,7 @@ fn appending_table(divisor: Divisor, shift: u32) -> [u64; BYTE_VALUES]
 {
     let mut table = [0; BYTE_VALUES];
     for (byte, entry) in table.iter_mut().enumerate() {
-        *entry = divisor.with_byte((byte as u64) << shift, 0);
+        *entry = divisor.append_byte((byte as u64) << shift, 0);
     }
     table
 }

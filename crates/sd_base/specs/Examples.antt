@@ -18,7 +18,7 @@ use Rattle.sd_base.specs.Books.{sessions_of, places_in, live_session, recipe_fla
 use Rattle.sd_base.specs.Texts.{plan_text}
 use Rattle.sd_base.specs.OnePass.{one_pass}
 use Rattle.sd_base.specs.declared.raw_params.RawParams.{RawParams}
-use Rattle.sd_base.specs.declared.limits.TheConstants.{MAX_INPUT, MAX_CHUNKS, MAX_PLACES, MAX_SESSIONS, MAX_CONTAINER, CONTAINER_HEADER, LARGEST_MAX, DEFAULT_POLYNOMIAL, DEFAULT_BITS, DEFAULT_TARGET, DEFAULT_MIN, DEFAULT_MAX, DEFAULT_WORKERS, DEFAULT_SEGMENT}
+use Rattle.sd_base.specs.declared.limits.TheConstants.{MAX_INPUT, MAX_CHUNKS, MAX_PLACES, MAX_SESSIONS, MAX_CONTAINER, CONTAINER_HEADER, MAX_CHUNK_LEN, DEFAULT_POLYNOMIAL, DEFAULT_BITS, DEFAULT_TARGET, DEFAULT_MIN, DEFAULT_MAX, DEFAULT_WORKERS, DEFAULT_SEGMENT}
 use Rattle.sd_base.specs.declared.name.BadName.TheVariants.{Length, Letter}
 use Rattle.sd_base.specs.declared.params.BadParams.TheVariants.{Bits}
 use Rattle.sd_base.specs.declared.words.BadKind.TheVariants.{Missing, Command as NoCommand, Key as NoKey, Twice, Value}
@@ -63,8 +63,8 @@ MAX_CONTAINER-is = refl
 pub CONTAINER_HEADER-is : CONTAINER_HEADER ≡ 8
 CONTAINER_HEADER-is = refl
 
-pub LARGEST_MAX-is : LARGEST_MAX ≡ 1048576
-LARGEST_MAX-is = refl
+pub MAX_CHUNK_LEN-is : MAX_CHUNK_LEN ≡ 1048576
+MAX_CHUNK_LEN-is = refl
 
 -- t^63 + 1
 abbrev pub sparse : ℕ

@@ -14,12 +14,12 @@ abbrev pub reduced : ℕ → ℕ → ℕ
 reduced p r = if bit_at r (degree p) == 1 then bit_xor r p else r
 
 -- the remainder of a bit string, from that of the string without its last bit
-abbrev pub with_bit : ℕ → ℕ → ℕ → ℕ
-with_bit p r bit = reduced p (2 * r + bit)
+abbrev pub append_bit : ℕ → ℕ → ℕ → ℕ
+append_bit p r bit = reduced p (2 * r + bit)
 
 -- the remainder of a bit string modulo the polynomial, the highest coefficient first
 abbrev pub remainder : ℕ → List ℕ → ℕ
-remainder p bits = fold (with_bit p) 0 bits
+remainder p bits = fold (append_bit p) 0 bits
 
 -- the bits of a byte, the high bit first
 abbrev pub bits_of_byte : ℕ → List ℕ

@@ -5,7 +5,7 @@ use Rattle.std.specs.Int.{w32, from_be_bytes, to_be_bytes}
 use Rattle.std.specs.List.{All, flat_map}
 use Rattle.sha2.specs.Sha256.{sha256}
 use Rattle.sd_base.specs.Names.{IsName}
-use Rattle.sd_base.specs.declared.limits.TheConstants.{LARGEST_MAX, MAX_CHUNKS, MAX_PLACES}
+use Rattle.sd_base.specs.declared.limits.TheConstants.{MAX_CHUNK_LEN, MAX_CHUNKS, MAX_PLACES}
 use Rattle.sd_base.specs.declared.record.NewChunk.{NewChunk}
 use Rattle.sd_base.specs.declared.record.IngestRecord.{IngestRecord}
 use Rattle.sd_base.specs.declared.record.Record.{Record}
@@ -49,18 +49,18 @@ unfoldable pub spelling_of : Record → List ℕ
 spelling_of entry = sealed (digested (kind_of entry) (body_of entry))
 
 -- what a record may hold, beside what the types of its fields keep to: the limits
-pub record IsInLimits (entry : IngestRecord) : Type 0 where
+pub record IsIngestWithinLimits (entry : IngestRecord) : Type 0 where
   pub chunks : length entry.fresh ≤ MAX_CHUNKS
-  pub lengths : All (λ chunk. (1 ≤ chunk.length) × (chunk.length ≤ LARGEST_MAX)) entry.fresh
+  pub lengths : All (λ chunk. (1 ≤ chunk.length) × (chunk.length ≤ MAX_CHUNK_LEN)) entry.fresh
   pub places : length entry.recipe ≤ MAX_PLACES
 
-abbrev pub HasSpelling : Record → Type 0
-HasSpelling (Ingest entry) = IsInLimits entry
-HasSpelling (Drop session) = Unit {0}
+abbrev pub IsWithinLimits : Record → Type 0
+IsWithinLimits (Ingest entry) = IsIngestWithinLimits entry
+IsWithinLimits (Drop session) = Unit {0}
 
 -- a new chunk of the grammar
 pub record IsNewChunk (chunk : NewChunk) : Type 0 where
-  pub size : (1 ≤ chunk.length) × (chunk.length ≤ LARGEST_MAX)
+  pub size : (1 ≤ chunk.length) × (chunk.length ≤ MAX_CHUNK_LEN)
   pub name : length chunk.name ≡ 32
 
 -- an ingest of the grammar

@@ -8,17 +8,17 @@ pub const WINDOW: u32 = 48;
 pub const MAX_INPUT: u32 = 268_435_456;
 
 /// The least polynomial that is allowed, of degree 16: a remainder then has at least the 16 bits that may be compared.
-pub const SMALLEST_POLYNOMIAL: u64 = 0x1_0000;
+pub const MIN_POLYNOMIAL: u64 = 0x1_0000;
 
 /// The greatest number of low bits of a fingerprint that may be compared.
-pub const MOST_BITS: u32 = 16;
+pub const MAX_BITS: u32 = 16;
 
 /// Bytes: the least `min` that is allowed. A chunk then holds the whole window that decides its end, which is why the
 /// rest of an input is cut as if it stood alone.
-pub const SMALLEST_MIN: u32 = 48;
+pub const MIN_CHUNK_LEN: u32 = 48;
 
 /// Bytes: the greatest `max` that is allowed.
-pub const LARGEST_MAX: u32 = 1_048_576;
+pub const MAX_CHUNK_LEN: u32 = 1_048_576;
 
 /// Bytes of the longest container, 2^22: four of the longest chunks fit but for the header.
 pub const MAX_CONTAINER: u32 = 4_194_304;
@@ -59,16 +59,16 @@ pub const DEFAULT_WORKERS: u32 = 4;
 /// Bytes of a segment where none are given.
 pub const DEFAULT_SEGMENT: u32 = 65_536;
 
-const _: () = prove!(WINDOW <= SMALLEST_MIN);
+const _: () = prove!(WINDOW <= MIN_CHUNK_LEN);
 
-const _: () = prove!(SMALLEST_POLYNOMIAL == 1 << MOST_BITS);
+const _: () = prove!(MIN_POLYNOMIAL == 1 << MAX_BITS);
 
-const _: () = prove!(DEFAULT_POLYNOMIAL >= SMALLEST_POLYNOMIAL && DEFAULT_POLYNOMIAL % 2 == 1);
+const _: () = prove!(DEFAULT_POLYNOMIAL >= MIN_POLYNOMIAL && DEFAULT_POLYNOMIAL % 2 == 1);
 
-const _: () = prove!(DEFAULT_BITS <= MOST_BITS && DEFAULT_TARGET < 1 << DEFAULT_BITS);
+const _: () = prove!(DEFAULT_BITS <= MAX_BITS && DEFAULT_TARGET < 1 << DEFAULT_BITS);
 
 const _: () = prove!(
-    SMALLEST_MIN <= DEFAULT_MIN && DEFAULT_MIN <= DEFAULT_MAX && DEFAULT_MAX <= LARGEST_MAX
+    MIN_CHUNK_LEN <= DEFAULT_MIN && DEFAULT_MIN <= DEFAULT_MAX && DEFAULT_MAX <= MAX_CHUNK_LEN
 );
 
-const _: () = prove!(CONTAINER_HEADER + LARGEST_MAX <= MAX_CONTAINER);
+const _: () = prove!(CONTAINER_HEADER + MAX_CHUNK_LEN <= MAX_CONTAINER);

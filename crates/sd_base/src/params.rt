@@ -3,7 +3,7 @@ ghost use Rattle.std.specs.Result.{result_err};
 ghost use Rattle.sd_base.specs.Parameters.{IsPolynomial, bad_parameter};
 ghost use Rattle.sd_base.specs.declared.raw_params.RawParams.{RawParams};
 
-use crate::limits::{LARGEST_MAX, MOST_BITS, SMALLEST_MIN, SMALLEST_POLYNOMIAL};
+use crate::limits::{MAX_CHUNK_LEN, MAX_BITS, MIN_CHUNK_LEN, MIN_POLYNOMIAL};
 
 /// Which number is the first that is out of its range. They are tried in this order. Defined by this project.
 #[derive(Clone, Copy, Debug, PartialEq, Eq)]
@@ -62,19 +62,19 @@ impl Params {
             record { polynomial = polynomial; bits = bits; target = target; min = min; max = max }
             in IfOk result (λ params. numbers_of params ≡ numbers) }
     {
-        if polynomial < SMALLEST_POLYNOMIAL || polynomial % 2 == 0 {
+        if polynomial < MIN_POLYNOMIAL || polynomial % 2 == 0 {
             return Err(BadParams::Polynomial);
         }
-        if bits == 0 || bits > MOST_BITS {
+        if bits == 0 || bits > MAX_BITS {
             return Err(BadParams::Bits);
         }
         if target >= 1 << bits {
             return Err(BadParams::Target);
         }
-        if min < SMALLEST_MIN {
+        if min < MIN_CHUNK_LEN {
             return Err(BadParams::Min);
         }
-        if max < min || max > LARGEST_MAX {
+        if max < min || max > MAX_CHUNK_LEN {
             return Err(BadParams::Max);
         }
         Ok(Params {

@@ -7,7 +7,7 @@ use Rattle.std.proofs.lemmas.List.{take_at, drop_at, take-append-drop, length-ap
 use Rattle.std.proofs.lemmas.Nat.{be_bytes_4, from_be_bytes-to_be_bytes_4}
 use Rattle.sd_base.specs.Names.{IsName, bad_name}
 use Rattle.sd_base.specs.Records.{number, new_chunk, IsNewChunk}
-use Rattle.sd_base.specs.declared.limits.TheConstants.{LARGEST_MAX}
+use Rattle.sd_base.specs.declared.limits.TheConstants.{MAX_CHUNK_LEN}
 use Rattle.sd_base.specs.declared.name.BadName.{BadName}
 use Rattle.sd_base.specs.declared.record.NewChunk.{NewChunk}
 use Rattle.sd_base.proofs.Names.{IsName_is_no_refusal}
@@ -130,8 +130,8 @@ chunk_takes bytes x fits e =
     let a = bind_some (number_at bytes) (λ size. bytes_at 32 size.1 >>= λ name. checked_chunk (record { length = size.0; name = name.0 }, name.1)) x e in
     let b = bind_some (bytes_at 32 a.0.1) (λ name. checked_chunk (record { length = a.0.0; name = name.0 }, name.1)) x a.2 in
     let made : NewChunk × List ℕ = (record { length = a.0.0; name = b.0.0 }, b.0.1) in
-    let g = when_some (leb 1 a.0.0 && leb a.0.0 LARGEST_MAX) (Some made) x b.2 in
-    let tests = and_parts (leb 1 a.0.0) (leb a.0.0 LARGEST_MAX) g.0 in
+    let g = when_some (leb 1 a.0.0 && leb a.0.0 MAX_CHUNK_LEN) (Some made) x b.2 in
+    let tests = and_parts (leb 1 a.0.0) (leb a.0.0 MAX_CHUNK_LEN) g.0 in
     let t0 = number_takes bytes a.0 fits a.1 in
     let t1 = bytes_take 32 a.0.1 b.0 t0.0.rest_fits b.1 in
     let both = Takes-then bytes (number a.0.0) a.0.1 b.0.0 b.0.1 t0.0 t1.0 in
@@ -141,7 +141,7 @@ chunk_again : (chunk : NewChunk) (rest : List ℕ) → IsNewChunk chunk → chun
 unfolding chunk_at
 chunk_again chunk rest fits =
     let lt : chunk.length < 2 ^ 32 = omega (arith, fits.size) in
-    let tests : (leb 1 chunk.length && leb chunk.length LARGEST_MAX) ≡ true = and_from _ _ (le-leb _ _ fits.size.0) (le-leb _ _ fits.size.1) in
+    let tests : (leb 1 chunk.length && leb chunk.length MAX_CHUNK_LEN) ≡ true = and_from _ _ (le-leb _ _ fits.size.0) (le-leb _ _ fits.size.1) in
     ap chunk_at (append_assoc (number chunk.length) chunk.name rest) ∙ rw (number_again chunk.length (chunk.name ++ rest) lt, bytes_again 32 chunk.name rest fits.name, tests) refl
 
 pub chunk_reader : IsReader chunk_at new_chunk IsNewChunk

@@ -1,10 +1,10 @@
 -- How many bytes the parts of a record take.
 use Rattle.std.proofs.Common.{◌≡◌, ℕ, ◌+◌, ◌*◌, ◌≤◌, List, [], ◌∷◌, ◌++◌, length, arith, ap, ◌∙◌, length-append}
 use Rattle.std.specs.List.{All, flat_map}
-use Rattle.sd_base.specs.declared.limits.TheConstants.{LARGEST_MAX}
+use Rattle.sd_base.specs.declared.limits.TheConstants.{MAX_CHUNK_LEN}
 use Rattle.sd_base.specs.declared.record.NewChunk.{NewChunk}
 use Rattle.std.proofs.lemmas.List.Concat.{flat_map-cons}
-use Rattle.sd_base.specs.Records.{number, new_chunk, ingest_body, IsNewChunk, IsRecord, HasSpelling}
+use Rattle.sd_base.specs.Records.{number, new_chunk, ingest_body, IsNewChunk, IsRecord, IsWithinLimits}
 use Rattle.sd_base.specs.declared.record.Record.{Record}
 use Rattle.sd_base.specs.declared.record.Record.TheVariants.{Ingest, Drop}
 use Rattle.sd_base.specs.declared.record.IngestRecord.{IngestRecord}
@@ -24,10 +24,10 @@ length_ingest_body entry =
     )
 
 -- lengths in their range and names of 32 bytes make new chunks
-pub All-IsNewChunk : (chunks : List NewChunk) → All (λ chunk. (1 ≤ chunk.length) × (chunk.length ≤ LARGEST_MAX)) chunks → All (λ chunk. length chunk.name ≡ 32) chunks → All IsNewChunk chunks
+pub All-IsNewChunk : (chunks : List NewChunk) → All (λ chunk. (1 ≤ chunk.length) × (chunk.length ≤ MAX_CHUNK_LEN)) chunks → All (λ chunk. length chunk.name ≡ 32) chunks → All IsNewChunk chunks
 All-IsNewChunk chunks sizes names = λ k d lt. record { size = sizes k d lt; name = names k d lt }
 
 -- what the grammar has, has a spelling
-pub HasSpelling-from_IsRecord : (entry : Record) → IsRecord entry → HasSpelling entry
-HasSpelling-from_IsRecord (Ingest entry) lawful = record { chunks = lawful.few_chunks; lengths = λ k d lt. (lawful.chunks k d lt).size; places = lawful.few_places }
-HasSpelling-from_IsRecord (Drop session) lawful = tt
+pub IsWithinLimits-from_IsRecord : (entry : Record) → IsRecord entry → IsWithinLimits entry
+IsWithinLimits-from_IsRecord (Ingest entry) lawful = record { chunks = lawful.few_chunks; lengths = λ k d lt. (lawful.chunks k d lt).size; places = lawful.few_places }
+IsWithinLimits-from_IsRecord (Drop session) lawful = tt

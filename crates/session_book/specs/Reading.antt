@@ -6,7 +6,7 @@ use Rattle.std.specs.Str.{bytes_eq}
 use Rattle.sha2.specs.Sha256.{sha256}
 use Rattle.sd_base.specs.Names.{bad_name}
 use Rattle.sd_base.specs.Records.{digested}
-use Rattle.sd_base.specs.declared.limits.TheConstants.{LARGEST_MAX, MAX_CHUNKS, MAX_PLACES}
+use Rattle.sd_base.specs.declared.limits.TheConstants.{MAX_CHUNK_LEN, MAX_CHUNKS, MAX_PLACES}
 use Rattle.sd_base.specs.declared.record.NewChunk.{NewChunk}
 use Rattle.sd_base.specs.declared.record.IngestRecord.{IngestRecord}
 use Rattle.sd_base.specs.declared.record.Record.{Record}
@@ -46,7 +46,7 @@ name_at (n ∷ bytes) = bytes_at n bytes >>= checked_name
 
 -- a new chunk
 abbrev pub checked_chunk : NewChunk × List ℕ → Option (NewChunk × List ℕ)
-checked_chunk x = if nat_le 1 x.0.length && nat_le x.0.length LARGEST_MAX then Some x else None
+checked_chunk x = if nat_le 1 x.0.length && nat_le x.0.length MAX_CHUNK_LEN then Some x else None
 
 unfoldable pub chunk_at : List ℕ → Option (NewChunk × List ℕ)
 chunk_at bytes = do

@@ -1,7 +1,7 @@
 //! The book of a store.
 ghost use Rattle.std.specs.Prelude.{◌≡◌, ◌<◌, ◌^◌, ℕ, [], length, option_map, option_copied, IfOk, OnOk, OnErr, IsOk, IsTrue, ◌↔◌, ◌≤◌};
 ghost use Rattle.std.specs.List.{All, slice_get};
-ghost use Rattle.sd_base.specs.Records.{IsInLimits, IsIngest, IsRecord, HasSpelling};
+ghost use Rattle.sd_base.specs.Records.{IsIngestWithinLimits, IsIngest, IsRecord, IsWithinLimits};
 ghost use Rattle.session_book.specs.BookFields.{HasRoom};
 ghost use Rattle.sd_base.specs.Books.{BookState, chunks_in, places_in, is_live, live_session, without, MayIngest, MayFollow, recipe_damage, with_record, IsReplayedOn};
 
@@ -59,7 +59,7 @@ impl Book {
     /// Adds a record that may follow those of the book. It is refused for want of memory alone, and the book is then as
     /// it was.
     pub fn add(&mut self, entry: Record) -> Result<(), OutOfMemory>
-        requires spelled { HasSpelling entry }
+        requires spelled { IsWithinLimits entry }
         requires follows { MayFollow self.old.max self.old.sessions entry }
         ensures added { OnOk result (self.new ≡ with_record self.old entry) }
         ensures unchanged { OnErr result (self.new ≡ self.old) }
@@ -82,7 +82,7 @@ impl Book {
 
     // Adds an ingest.
     fn ingest(&mut self, entry: IngestRecord) -> Result<(), OutOfMemory>
-        requires spelled { IsInLimits entry }
+        requires spelled { IsIngestWithinLimits entry }
         requires follows { MayIngest self.old.max self.old.sessions entry }
         ensures added { OnOk result (self.new ≡ with_record self.old (Record.Ingest entry)) }
         ensures unchanged { OnErr result (self.new ≡ self.old) }

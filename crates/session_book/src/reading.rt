@@ -6,7 +6,7 @@ ghost use Rattle.session_book.specs.declared.reading.Stop.TheVariants.{Memory};
 
 use crate::lengths::{DIGEST_LEN, NEW_CHUNK_LEN, NUMBER_LEN};
 use sd_base::{
-    IngestRecord, LARGEST_MAX, MAX_CHUNKS, MAX_PLACES, Name, NewChunk, NewChunks, Recipe, Record,
+    IngestRecord, MAX_CHUNK_LEN, MAX_CHUNKS, MAX_PLACES, Name, NewChunk, NewChunks, Recipe, Record,
 };
 use std::alloc::{AllocError, AllocFailed, Global};
 
@@ -108,7 +108,7 @@ fn chunk(bytes: &[u8]) -> Result<(NewChunk, &[u8]), Stop>
 {
     let (length, rest) = number(bytes)?;
     let (name, rest) = chunk_name(rest)?;
-    if length < 1 || length > LARGEST_MAX {
+    if length < 1 || length > MAX_CHUNK_LEN {
         return Err(Stop::Unspelled);
     }
     Ok((NewChunk { length, name }, rest))

@@ -1,7 +1,7 @@
 //! Records as bytes.
 ghost use Rattle.std.specs.Prelude.{◌≡◌, ◌++◌, ◌+◌, ◌*◌, ◌<◌, ◌≤◌, ◌^◌, length, IfOk, OnOk};
 ghost use Rattle.std.specs.List.{All, flat_map};
-ghost use Rattle.sd_base.specs.Records.{number, new_chunk, ingest_body, digested, kind_of, body_of, spelling_of, HasSpelling, IsInLimits, IsIngest, IsRecord};
+ghost use Rattle.sd_base.specs.Records.{number, new_chunk, ingest_body, digested, kind_of, body_of, spelling_of, IsWithinLimits, IsIngestWithinLimits, IsIngest, IsRecord};
 
 use crate::lengths::{AROUND_BODY, DROP_LEN, INGEST_NUMBERS, NEW_CHUNK_LEN, NUMBER_LEN};
 use sd_base::{IngestRecord, MAX_CHUNKS, NewChunk, OutOfMemory, Record};
@@ -12,7 +12,7 @@ use std::alloc::{AllocError, Global};
 /// it again. It is refused for want of memory alone.
 #[tactic(auto, unfolding(sd_base::specs::Records::spelling_of))]
 pub fn encode_record(alloc: Global, entry: &Record) -> Result<Vec<u8>, OutOfMemory>
-    requires { HasSpelling entry.now }
+    requires { IsWithinLimits entry.now }
     ensures spelled { IfOk result (λ bytes. bytes.items ≡ spelling_of entry.now) }
     ensures lawful { IsRecord entry.now }
 {
@@ -25,7 +25,7 @@ pub fn encode_record(alloc: Global, entry: &Record) -> Result<Vec<u8>, OutOfMemo
 
 // Writes a record but for its digest.
 fn put_digested(out: &mut Vec<u8>, entry: &Record) -> Result<(), AllocError>
-    requires { HasSpelling entry.now }
+    requires { IsWithinLimits entry.now }
     ensures written { OnOk result (out.new.items ≡ out.old.items ++ digested (kind_of entry.now) (body_of entry.now)) }
     ensures lawful { IsRecord entry.now }
 {
@@ -47,7 +47,7 @@ fn put_drop(out: &mut Vec<u8>, session: u32) -> Result<(), AllocError>
 
 // Writes an ingest but for its digest.
 fn put_ingest(out: &mut Vec<u8>, entry: &IngestRecord) -> Result<(), AllocError>
-    requires { IsInLimits entry.now }
+    requires { IsIngestWithinLimits entry.now }
     ensures written { OnOk result (out.new.items ≡ out.old.items ++ digested 73 (ingest_body entry.now)) }
     ensures lawful { IsIngest entry.now }
 {
@@ -60,7 +60,7 @@ fn put_ingest(out: &mut Vec<u8>, entry: &IngestRecord) -> Result<(), AllocError>
 
 // The number of bytes of an ingest's spelling, with room for that of a drop.
 pub fn ingest_len(entry: &IngestRecord) -> u32
-    requires { IsInLimits entry.now }
+    requires { IsIngestWithinLimits entry.now }
     ensures spelled { result ≡ length (spelling_of (Record.Ingest entry.now)) }
     ensures small { result + DROP_LEN ≤ 2 ^ 30 }
     ensures lawful { IsIngest entry.now }
@@ -71,7 +71,7 @@ pub fn ingest_len(entry: &IngestRecord) -> u32
 // The number of bytes of an ingest's body.
 #[tactic(auto, using(crate::proofs::Sizes::length_ingest_body, crate::proofs::Sizes::length_entries))]
 fn body_len(entry: &IngestRecord) -> u32
-    requires { IsInLimits entry.now }
+    requires { IsIngestWithinLimits entry.now }
     ensures size { result ≡ length (ingest_body entry.now) }
     ensures lawful { IsIngest entry.now }
 {
@@ -113,7 +113,7 @@ fn name_len(name: &[u8; 32]) -> usize
 // Writes the body of an ingest.
 #[tactic(auto, unfolding(sd_base::specs::Records::ingest_body))]
 fn put_body(out: &mut Vec<u8>, entry: &IngestRecord) -> Result<(), AllocError>
-    requires { IsInLimits entry.now }
+    requires { IsIngestWithinLimits entry.now }
     ensures { OnOk result (out.new.items ≡ out.old.items ++ ingest_body entry.now) }
 {
     let name = entry.name.as_bytes();

@@ -1,6 +1,6 @@
 use Rattle.std.proofs.Common.{arith}
 use Rattle.rabin_window.proofs.Degree.{longer_below, taken_below}
-use Rattle.rabin_window.proofs.divisor.Divisor.with_bit.Goals as goal
+use Rattle.rabin_window.proofs.divisor.Divisor.append_bit.Goals as goal
 
 pub returns-then-longer-self-eq1-clause-reduced : goal.returns-then-longer-self-eq1-clause-reduced
 returns-then-longer-self-eq1-clause-reduced c =
