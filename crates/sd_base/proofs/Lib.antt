@@ -5,3 +5,6 @@ pub mod Fronts
 pub mod Covering
 pub mod Ranges
 pub mod Names
+pub mod Distinct
+pub mod ContainerSizes
+pub mod States

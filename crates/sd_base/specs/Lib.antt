@@ -15,3 +15,9 @@ pub mod Laws
 pub mod Examples
 pub use Rattle.sha2.specs.Sha256
 pub use Rattle.hex.specs.Hex
+pub mod Distinct
+pub mod States
+pub mod Settings
+pub mod Stores
+pub mod Opening
+pub mod Rows

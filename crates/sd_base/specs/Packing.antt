@@ -3,7 +3,7 @@
 use Rattle.std.specs.Prelude.{◌≡◌, ℕ, ◌+◌, ◌<◌, ◌≤◌, nat_le, if◌then◌else◌, List, [], ◌∷◌, ◌++◌, length, codes, slice_index_or}
 use Rattle.std.specs.Int.{w32, to_be_bytes}
 use Rattle.std.specs.List.{concat}
-use Rattle.sd_base.specs.declared.limits.TheConstants.{MAX_CONTAINER}
+use Rattle.sd_base.specs.declared.limits.TheConstants.{MAX_CONTAINER, CONTAINER_HEADER}
 
 -- the first bytes of a container: its mark and its number
 abbrev pub header_of : ℕ → List ℕ
@@ -35,3 +35,16 @@ pub record ArePacked (groups : List (List (List ℕ))) (containers : List (List 
 pub record ArePrefixes (before after : List (List ℕ)) : Type 0 where
   pub no_fewer : length before ≤ length after
   pub prefix : (k : ℕ) → k < length before → (rest : List ℕ) × (slice_index_or after k [] ≡ slice_index_or before k [] ++ rest)
+
+-- the bytes of the containers of chunks of these lengths, from one that is open
+abbrev pub sizes_on : ℕ → List ℕ → List ℕ
+sizes_on size [] = size ∷ []
+sizes_on size (n ∷ ns) =
+    if nat_le (size + n) MAX_CONTAINER
+    then sizes_on (size + n) ns
+    else size ∷ sizes_on (CONTAINER_HEADER + n) ns
+
+-- the bytes of the containers of chunks, by the lengths of the chunks alone
+abbrev pub container_sizes : List ℕ → List ℕ
+container_sizes [] = []
+container_sizes (n ∷ ns) = sizes_on (CONTAINER_HEADER + n) ns

@@ -1,7 +1,8 @@
 -- The texts that commands print, as bytes. Fields are separated by one space, a line ends with a line feed, and numbers
 -- are decimal with no leading zeros. Defined by this project; names of chunks are SHA-256 (FIPS 180-4) in hexadecimal.
-use Rattle.std.specs.Prelude.{ℕ, ◌+◌, List, [], ◌∷◌, ◌++◌, length}
+use Rattle.std.specs.Prelude.{ℕ, ◌+◌, List, [], ◌∷◌, ◌++◌, length, codes}
 use Rattle.std.specs.Fmt.{decimal}
+use Rattle.std.specs.List.{flat_map}
 use Rattle.sha2.specs.Sha256.{sha256}
 use Rattle.hex.specs.Hex.{encode_lower}
 
@@ -22,3 +23,28 @@ plan_lines offset (chunk ∷ chunks) = plan_line offset chunk ++ plan_lines (off
 -- the text of `plan`
 abbrev pub plan_text : List (List ℕ) → List ℕ
 plan_text chunks = plan_lines 0 chunks
+
+-- the text of `init`
+abbrev pub ready_text : List ℕ
+ready_text = codes "ready" ++ 10 ∷ []
+
+-- the text of an ingest: the name of the session, the number of its bytes, of its places and of its new chunks
+abbrev pub ingested_text : List ℕ → ℕ → ℕ → ℕ → List ℕ
+ingested_text name bytes places fresh =
+    codes "ingested " ++ name ++ 32 ∷ [] ++ decimal bytes ++ codes " bytes " ++ decimal places ++ codes " places "
+    ++ decimal fresh ++ codes " new" ++ 10 ∷ []
+
+-- a session as `list` shows it: its number, its name, the number of its bytes and of its places
+pub record SessionRow : Type 0 where
+  pub number : ℕ
+  pub name : List ℕ
+  pub bytes : ℕ
+  pub places : ℕ
+
+abbrev pub list_line : SessionRow → List ℕ
+list_line row =
+    decimal row.number ++ 32 ∷ [] ++ row.name ++ 32 ∷ [] ++ decimal row.bytes ++ 32 ∷ [] ++ decimal row.places ++ 10 ∷ []
+
+-- the text of `list`: a line for each row, in order
+abbrev pub list_text : List SessionRow → List ℕ
+list_text rows = flat_map list_line rows

@@ -5,6 +5,7 @@
 #![tactic(auto)]
 
 mod damage;
+mod file;
 mod laws;
 mod limits;
 mod memory;
@@ -16,13 +17,14 @@ mod record;
 mod words;
 
 pub use damage::Damage;
+pub use file::File;
 pub use laws::{
     chunks_cover_the_input, chunks_go_on_in_the_tail, names_are_the_refusals,
     next_cut_is_the_least, ranges_are_the_refusals,
 };
 pub use limits::{
     CONTAINER_HEADER, DEFAULT_BITS, DEFAULT_MAX, DEFAULT_MIN, DEFAULT_POLYNOMIAL, DEFAULT_SEGMENT,
-    DEFAULT_TARGET, DEFAULT_WORKERS, MAX_CHUNK_LEN, MAX_CHUNKS, MAX_CONTAINER, MAX_INPUT, MAX_NAME,
+    DEFAULT_TARGET, DEFAULT_WORKERS, FORMAT_VERSION, MAX_GENERATION, METHOD_RABIN, OPEN_HEAD, SETTINGS_LEN, MAX_CHUNK_LEN, MAX_CHUNKS, MAX_CONTAINER, MAX_INPUT, MAX_NAME,
     MAX_PLACES, MAX_SESSIONS, MAX_BITS, MIN_CHUNK_LEN, MIN_POLYNOMIAL, WINDOW,
 };
 pub use memory::OutOfMemory;

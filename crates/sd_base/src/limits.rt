@@ -35,6 +35,21 @@ pub const MAX_PLACES: u32 = 16_777_216;
 /// The most sessions of a book, live and dropped.
 pub const MAX_SESSIONS: u32 = 4096;
 
+/// The greatest generation of a store: the bytes of its head stay few.
+pub const MAX_GENERATION: u32 = 65_535;
+
+/// Bytes of a store's settings.
+pub const SETTINGS_LEN: u32 = 32;
+
+/// Bytes of the shortest head that opens a store: the settings and one byte.
+pub const OPEN_HEAD: u32 = SETTINGS_LEN + 1;
+
+/// The version of the format in a store's settings.
+pub const FORMAT_VERSION: u8 = 1;
+
+/// The method of cutting in a store's settings: Rabin's fingerprint.
+pub const METHOD_RABIN: u8 = 0;
+
 /// Bytes of the longest name of a session: its length is one byte of a record.
 pub const MAX_NAME: usize = 64;
 

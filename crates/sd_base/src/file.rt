@@ -1,0 +1,12 @@
+/// A file of a store. The first number is the generation.
+#[derive(Clone, Copy, Debug, PartialEq, Eq)]
+pub enum File {
+    /// The settings, the byte that opens the store, and a byte for each later generation.
+    Head,
+    /// A byte for each committed record of a generation.
+    Seal(u32),
+    /// The records of a generation, one after another.
+    Book(u32),
+    /// The chunks of a container, by generation and number.
+    Container(u32, u32),
+}
