@@ -7,7 +7,7 @@ use Rattle.std.proofs.lemmas.Bool.{cases_Bool}
 use Rattle.std.proofs.lemmas.Map.Views.{any-filter_same}
 use Rattle.std.proofs.lemmas.Slice.Eq.{bytes_eq-Decides}
 use Rattle.std.proofs.lemmas.List.Elements.{filter-append}
-use Rattle.sd_base.specs.Distinct.{is_among, not_among, distinct, first_index}
+use Rattle.sd_base.specs.Distinct.{is_among, not_among, distinct, first_index, AreDifferent}
 
 -- nothing is among no chunks
 not_among-nothing : (chunks : List (List ℕ)) → not_among [] chunks ≡ chunks
@@ -66,3 +66,47 @@ first_index-append (x ∷ xs) ys chunk among =
       | inl same ↦ rw same refl
       | inr other ↦ rw other (ap (λ k. 1 + k) (first_index-append xs ys chunk (rw other at among)))
     ]
+
+-- neither of two tests passes
+or_parts : (a b : Bool) → (a || b) ≡ false → (a ≡ false) × (b ≡ false)
+or_parts true b none = absurd cc
+or_parts false b none = (refl, none)
+
+unequal_too : (xs ys : List ℕ) → bytes_eq xs ys ≡ false → bytes_eq ys xs ≡ false
+unequal_too xs ys other = elim (cases_Bool (bytes_eq ys xs)) [
+  | inl same ↦
+      let clash : false ≡ true = sym other ∙ (bytes_eq-Decides xs ys).1 (sym ((bytes_eq-Decides ys xs).0 same)) in
+      absurd cc
+  | inr unequal ↦ unequal
+  ]
+
+-- what is not among chunks is not among fewer of them
+not_among-fewer : (others chunks : List (List ℕ)) (chunk : List ℕ) → is_among chunks chunk ≡ false → is_among (not_among others chunks) chunk ≡ false
+not_among-fewer others [] chunk none = refl
+not_among-fewer others (first ∷ chunks) chunk none =
+    let parts = or_parts (bytes_eq chunk first) (is_among chunks chunk) none in
+    elim (cases_Bool (is_among others first)) [
+      | inl among ↦ rw among (not_among-fewer others chunks chunk parts.1)
+      | inr alone ↦ rw alone (rw parts.0 (not_among-fewer others chunks chunk parts.1))
+    ]
+
+-- a chunk is not among those that are left without it
+none_left : (chunk : List ℕ) (chunks : List (List ℕ)) → is_among (not_among (chunk ∷ []) chunks) chunk ≡ false
+none_left chunk [] = refl
+none_left chunk (first ∷ chunks) = elim (cases_Bool (bytes_eq first chunk)) [
+  | inl same ↦ rw same (none_left chunk chunks)
+  | inr other ↦ rw other (rw (unequal_too first chunk other) (none_left chunk chunks))
+  ]
+
+-- a filter leaves different chunks different
+different-not_among : (others chunks : List (List ℕ)) → AreDifferent chunks → AreDifferent (not_among others chunks)
+different-not_among others [] different = tt
+different-not_among others (chunk ∷ chunks) different = elim (cases_Bool (is_among others chunk)) [
+  | inl among ↦ rw among (different-not_among others chunks different.1)
+  | inr alone ↦ rw alone (not_among-fewer others chunks chunk different.0, different-not_among others chunks different.1)
+  ]
+
+pub distinct-different : (chunks : List (List ℕ)) → AreDifferent (distinct chunks)
+distinct-different [] = tt
+distinct-different (chunk ∷ chunks) =
+    (none_left chunk (distinct chunks), different-not_among (chunk ∷ []) (distinct chunks) (distinct-different chunks))

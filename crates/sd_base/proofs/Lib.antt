@@ -8,3 +8,4 @@ pub mod Names
 pub mod Distinct
 pub mod ContainerSizes
 pub mod States
+pub mod Files

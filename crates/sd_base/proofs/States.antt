@@ -87,3 +87,9 @@ records_of-followed name_of state event =
     ∙ ap (λ records. records ++ records_from name_of (stored_chunks (followed_by_event state event)) (placed_chunks state.events) (event ∷ []))
       (ap (λ stored. records_from name_of stored [] state.events) (stored_chunks-followed state event)
       ∙ records_from-stays name_of (stored_chunks state) (not_among (placed_chunks state.events) (distinct (placed_chunks (event ∷ [])))) [] state.events (placed-stored state))
+
+-- one more event is one more record
+pub one_record_more : (name_of : List ℕ → List ℕ) (state : State) (event : Event) →
+    (entry : Record) × (records_of name_of (followed_by_event state event) ≡ records_of name_of state ++ entry ∷ [])
+one_record_more name_of state (ingested name chunks) = (_, records_of-followed name_of state (ingested name chunks))
+one_record_more name_of state (dropped k) = (_, records_of-followed name_of state (dropped k))

@@ -1,6 +1,6 @@
 -- Distinct chunks of a list, in order of first occurrence. Two chunks are the same if their bytes are equal: no name of a
 -- chunk enters.
-use Rattle.std.specs.Prelude.{ℕ, Bool, not, List, [], ◌∷◌}
+use Rattle.std.specs.Prelude.{◌≡◌, ℕ, Bool, false, not, List, [], ◌∷◌}
 use Rattle.std.specs.List.{filter, list_any, position_or_len}
 use Rattle.std.specs.Str.{bytes_eq}
 
@@ -20,3 +20,8 @@ distinct (chunk ∷ chunks) = chunk ∷ not_among (chunk ∷ []) (distinct chunk
 -- the least index of a chunk in a list, or the number of its chunks if it is not among them
 abbrev pub first_index : List (List ℕ) → List ℕ → ℕ
 first_index chunks chunk = position_or_len (bytes_eq chunk) chunks
+
+-- no two chunks of a list are equal
+abbrev pub AreDifferent : List (List ℕ) → Type 0
+AreDifferent [] = Unit {0}
+AreDifferent (chunk ∷ chunks) = (is_among chunks chunk ≡ false) × AreDifferent chunks

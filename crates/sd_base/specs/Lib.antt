@@ -21,3 +21,4 @@ pub mod Settings
 pub mod Stores
 pub mod Opening
 pub mod Rows
+pub mod StateLaws

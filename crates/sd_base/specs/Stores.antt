@@ -1,5 +1,5 @@
 -- When the files of a store hold a state. Files are a function: a file that is not there is empty.
-use Rattle.std.specs.Prelude.{◌≡◌, ◌≢◌, ℕ, ◌+◌, ◌<◌, List, [], ◌∷◌, ◌++◌, length, map, take, replicate, slice_index_or, nat_eq, if◌then◌else◌}
+use Rattle.std.specs.Prelude.{◌≡◌, ◌≢◌, ℕ, ◌+◌, ◌<◌, List, [], ◌∷◌, ◌++◌, length, map, take, replicate, slice_index_or, ◌==◌, if◌then◌else◌}
 use Rattle.std.specs.List.{concat}
 use Rattle.sd_base.specs.Books.{book_of}
 use Rattle.sd_base.specs.Distinct.{distinct, first_index, not_among}
@@ -74,10 +74,10 @@ MARK_BYTE = 0x53
 -- the files of a state and nothing else, as the tool writes them
 abbrev pub files_of : (List ℕ → List ℕ) → State → File → List ℕ
 files_of name_of state Head = settings_of state.params ++ replicate (1 + state.generation) MARK_BYTE
-files_of name_of state (Seal g) = if nat_eq g state.generation then replicate (length state.events) MARK_BYTE else []
-files_of name_of state (Book g) = if nat_eq g state.generation then book_of (records_of name_of state) else []
+files_of name_of state (Seal g) = if g == state.generation then replicate (length state.events) MARK_BYTE else []
+files_of name_of state (Book g) = if g == state.generation then book_of (records_of name_of state) else []
 files_of name_of state (Container g k) =
-    if nat_eq g state.generation then slice_index_or (packing (stored_chunks state)) k [] else []
+    if g == state.generation then slice_index_or (packing (stored_chunks state)) k [] else []
 
 -- there is no store: the head is too short to open one
 abbrev pub HoldNoStore : (File → List ℕ) → Type 0

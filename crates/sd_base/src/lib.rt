@@ -13,6 +13,7 @@ mod name;
 mod outcome;
 mod params;
 mod raw_params;
+mod state_laws;
 mod record;
 mod words;
 
@@ -32,5 +33,6 @@ pub use name::{BadName, Name};
 pub use outcome::Outcome;
 pub use params::{BadParams, Params};
 pub use raw_params::RawParams;
+pub use state_laws::{container_sizes_are_by_lengths, distinct_chunks_are_each_once, each_state_has_its_files, stores_only_grow};
 pub use record::{IngestRecord, NewChunk, NewChunks, Recipe, Record, Session};
 pub use words::{BadKind, BadWords, Command, Quiet};

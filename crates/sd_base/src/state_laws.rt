@@ -1,0 +1,26 @@
+//! Laws of states and of the files that hold them. Each is the contract of a function that does nothing.
+
+ghost use Rattle.sd_base.specs.StateLaws.{DistinctChunksAreThoseOfTheList, DistinctChunksDiffer, DistinctChunksOnlyGrow, StoredChunksOnlyGrow, RecordsOnlyGrow, SizesFollowFromLengths, EachStateHasItsFiles};
+
+/// The distinct chunks of a list are those of the list, each once, in order of first occurrence.
+pub fn distinct_chunks_are_each_once()
+    ensures those { DistinctChunksAreThoseOfTheList }
+    ensures different { DistinctChunksDiffer }
+    ensures in_order { DistinctChunksOnlyGrow }
+{}
+
+/// A store only grows: one more event leaves the stored chunks and the records as they are, and adds after them.
+pub fn stores_only_grow()
+    ensures chunks { StoredChunksOnlyGrow }
+    ensures records { RecordsOnlyGrow }
+{}
+
+/// The sizes of containers follow from the lengths of the chunks.
+pub fn container_sizes_are_by_lengths()
+    ensures { SizesFollowFromLengths }
+{}
+
+/// Each state is held by files that have nothing else.
+pub fn each_state_has_its_files()
+    ensures { EachStateHasItsFiles }
+{}
