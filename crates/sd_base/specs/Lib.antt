@@ -22,3 +22,4 @@ pub mod Stores
 pub mod Opening
 pub mod Rows
 pub mod StateLaws
+pub mod StoreExamples
