@@ -9,3 +9,4 @@ pub mod Distinct
 pub mod ContainerSizes
 pub mod States
 pub mod Files
+pub mod OpeningExamples

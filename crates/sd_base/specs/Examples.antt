@@ -255,3 +255,12 @@ live_session-dropped = refl
 
 pub places_in-dropped : places_in (sessions_of (Ingest (session_of two_chunks 72 (0 ∷ 1 ∷ [])) ∷ Drop 0 ∷ [])) ≡ 2
 places_in-dropped = refl
+
+pub IsValid-small_params : IsValid (small_params 0)
+IsValid-small_params = record {
+  polynomial = (lit≤ tt, lit< tt, refl);
+  bits = (lit≤ tt, lit≤ tt);
+  target = lit< tt;
+  min = lit≤ tt;
+  max = (lit≤ tt, lit≤ tt);
+}
