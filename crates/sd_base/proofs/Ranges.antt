@@ -24,8 +24,8 @@ IsValid-from_none raw fits none = record {
 pub IsValid-numbers_of : (params : Params) → IsValid (numbers_of params)
 IsValid-numbers_of params = record {
   polynomial = params.valid_polynomial;
-  bits = (params.some_bits, params.few_bits);
+  bits = (params.bits_not_zero, params.bits_within_limit);
   target = params.target_fits;
   min = params.min_holds_a_window;
-  max = (params.ordered, params.max_in_range);
+  max = (params.ordered, params.max_within_limit);
 }

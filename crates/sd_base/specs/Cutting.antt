@@ -4,6 +4,7 @@
 use Rattle.std.specs.Prelude.{◌≡◌, ◌⊎◌, ℕ, zero, suc, ◌+◌, ◌-◌, ◌%◌, ◌^◌, ◌<◌, ◌≤◌, ◌==◌, ◌&&◌, nat_lt, nat_le, min, Bool, if◌then◌else◌, IsTrue, List, [], ◌∷◌, length, slice_range, unwrap_or}
 use Rattle.std.specs.List.{find}
 use Rattle.sd_base.specs.Polynomial.{fingerprint}
+use Rattle.sd_base.specs.declared.limits.TheConstants.{WINDOW}
 use Rattle.sd_base.specs.declared.raw_params.RawParams.{RawParams}
 
 -- whether the low-order bits of a window's fingerprint are the target
@@ -12,7 +13,8 @@ is_match params window = fingerprint params.polynomial window % 2 ^ params.bits 
 
 -- whether a position is a candidate: it has a whole window before it, and that window is a match
 abbrev pub is_candidate : RawParams → List ℕ → ℕ → Bool
-is_candidate params input p = nat_le 48 p && nat_le p (length input) && is_match params (slice_range input (p - 48) p)
+is_candidate params input p =
+    nat_le WINDOW p && nat_le p (length input) && is_match params (slice_range input (p - WINDOW) p)
 
 abbrev pub IsCandidate : RawParams → List ℕ → ℕ → Type 0
 IsCandidate params input p = IsTrue (is_candidate params input p)

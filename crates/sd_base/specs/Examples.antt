@@ -18,7 +18,7 @@ use Rattle.sd_base.specs.Books.{sessions_of, places_in, live_session, recipe_fla
 use Rattle.sd_base.specs.Texts.{plan_text}
 use Rattle.sd_base.specs.OnePass.{one_pass}
 use Rattle.sd_base.specs.declared.raw_params.RawParams.{RawParams}
-use Rattle.sd_base.specs.declared.limits.TheConstants.{MAX_INPUT, MAX_CHUNKS, MAX_PLACES, MAX_SESSIONS, MAX_CONTAINER, CONTAINER_HEADER, MAX_CHUNK_LEN, DEFAULT_POLYNOMIAL, DEFAULT_BITS, DEFAULT_TARGET, DEFAULT_MIN, DEFAULT_MAX, DEFAULT_WORKERS, DEFAULT_SEGMENT}
+use Rattle.sd_base.specs.declared.limits.TheConstants.{WINDOW, MIN_POLYNOMIAL, MAX_BITS, MIN_CHUNK_LEN, MAX_NAME, MAX_INPUT, MAX_CHUNKS, MAX_PLACES, MAX_SESSIONS, MAX_CONTAINER, CONTAINER_HEADER, MAX_CHUNK_LEN, DEFAULT_POLYNOMIAL, DEFAULT_BITS, DEFAULT_TARGET, DEFAULT_MIN, DEFAULT_MAX, DEFAULT_WORKERS, DEFAULT_SEGMENT}
 use Rattle.sd_base.specs.declared.name.BadName.TheVariants.{Length, Letter}
 use Rattle.sd_base.specs.declared.params.BadParams.TheVariants.{Bits}
 use Rattle.sd_base.specs.declared.words.BadKind.TheVariants.{Missing, Command as NoCommand, Key as NoKey, Twice, Value}
@@ -44,7 +44,22 @@ IsValid-default_params = record {
 pub default_plan-of_the_constants : default_plan ≡ Quiet (Plan (record { polynomial = DEFAULT_POLYNOMIAL; bits = DEFAULT_BITS; target = DEFAULT_TARGET; min = DEFAULT_MIN; max = DEFAULT_MAX }) DEFAULT_WORKERS DEFAULT_SEGMENT)
 default_plan-of_the_constants = refl
 
--- the limits
+-- the limits, each by its number: a definition or a clause that cites one means this number
+pub WINDOW-is : WINDOW ≡ 48
+WINDOW-is = refl
+
+pub MIN_POLYNOMIAL-is : MIN_POLYNOMIAL ≡ 2 ^ 16
+MIN_POLYNOMIAL-is = refl
+
+pub MAX_BITS-is : MAX_BITS ≡ 16
+MAX_BITS-is = refl
+
+pub MIN_CHUNK_LEN-is : MIN_CHUNK_LEN ≡ 48
+MIN_CHUNK_LEN-is = refl
+
+pub MAX_NAME-is : MAX_NAME ≡ 64
+MAX_NAME-is = refl
+
 pub MAX_INPUT-is : MAX_INPUT ≡ 2 ^ 28
 MAX_INPUT-is = refl
 

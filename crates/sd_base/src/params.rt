@@ -1,9 +1,10 @@
 ghost use Rattle.std.specs.Prelude.{◌≡◌, ◌^◌, ◌%◌, ◌<◌, ◌≤◌, ℕ, IfOk, Option};
 ghost use Rattle.std.specs.Result.{result_err};
 ghost use Rattle.sd_base.specs.Parameters.{IsPolynomial, bad_parameter};
+ghost use Rattle.sd_base.specs.declared.limits.TheConstants.{MAX_BITS, MIN_CHUNK_LEN, MAX_CHUNK_LEN};
 ghost use Rattle.sd_base.specs.declared.raw_params.RawParams.{RawParams};
 
-use crate::limits::{MAX_CHUNK_LEN, MAX_BITS, MIN_CHUNK_LEN, MIN_POLYNOMIAL};
+use crate::limits::{MAX_BITS, MAX_CHUNK_LEN, MIN_CHUNK_LEN, MIN_POLYNOMIAL};
 
 /// Which number is the first that is out of its range. They are tried in this order. Defined by this project.
 #[derive(Clone, Copy, Debug, PartialEq, Eq)]
@@ -35,12 +36,12 @@ pub struct Params {
     /// Bytes of the longest chunk, from `min` to 1,048,576.
     pub max: u32,
     pub ghost valid_polynomial: { IsPolynomial polynomial },
-    pub ghost some_bits: { 1 ≤ bits },
-    pub ghost few_bits: { bits ≤ 16 },
+    pub ghost bits_not_zero: { 1 ≤ bits },
+    pub ghost bits_within_limit: { bits ≤ MAX_BITS },
     pub ghost target_fits: { target < 2 ^ bits },
-    pub ghost min_holds_a_window: { 48 ≤ min },
+    pub ghost min_holds_a_window: { MIN_CHUNK_LEN ≤ min },
     pub ghost ordered: { min ≤ max },
-    pub ghost max_in_range: { max ≤ 1048576 },
+    pub ghost max_within_limit: { max ≤ MAX_CHUNK_LEN },
 }
 
 impl Params {
