@@ -1,7 +1,8 @@
 -- Cuts one at a time: what the next cut is, and what a list of cuts is from one of them on.
 use Rattle.std.proofs.Common.{◌≡◌, ◌⊎◌, inl, inr, ℕ, zero, suc, ◌+◌, ◌-◌, ◌<◌, ◌≤◌, min, Bool, true, false, unwrap_or, find, List, [], ◌∷◌, ◌++◌, length, slice_range, refl, sym, ap, ◌∙◌, append_assoc, append-nil, le_antisymm, arith}
+use Rattle.std.specs.List.{range_with_len}
 use Rattle.std.proofs.lemmas.Bool.{cases_Bool, lt-ltb, le-ltb, le-leb, cases_lt}
-use Rattle.sd_base.specs.Cutting.{is_match, is_candidate, furthest, count_up, next_cut, IsNextCut, cuts_within, cuts_of, parts, chunks_of}
+use Rattle.sd_base.specs.Cutting.{is_match, is_candidate, furthest, next_cut, IsNextCut, cuts_within, cuts_of, parts, chunks_of}
 use Rattle.sd_base.specs.declared.raw_params.RawParams.{RawParams}
 
 -- a position with a whole window before it is a candidate where the window is a match
@@ -9,7 +10,7 @@ pub is_candidate_here : (params : RawParams) (input : List ℕ) (p : ℕ) → 48
 is_candidate_here params input p window within = rw (le-leb 48 p window, le-leb p (length input) within)
 
 -- a search of the numbers from low on stops at no number above one that passes
-find_least : (p : ℕ → Bool) (low n d q : ℕ) → p q ≡ true → low ≤ q → q < low + n → unwrap_or (find p (count_up low n)) d ≤ q
+find_least : (p : ℕ → Bool) (low n d q : ℕ) → p q ≡ true → low ≤ q → q < low + n → unwrap_or (find p (range_with_len low n)) d ≤ q
 find_least p low zero d q passes above below = absurd (omega arith)
 find_least p low (suc n) d q passes above below =
     elim (cases_Bool (p low)) [
@@ -17,7 +18,7 @@ find_least p low (suc n) d q passes above below =
       | inr not_here ↦
           rw not_here
           (elim (cases_lt low q) [
-            | inl later ↦ find_least p (suc low) n d q passes (omega arith) (omega arith)
+            | inl later ↦ find_least p (low + 1) n d q passes (omega arith) (omega arith)
             | inr same ↦
                 let e : q ≡ low = omega arith in
                 let no : true ≡ false = sym passes ∙ ap p e ∙ not_here in
@@ -31,14 +32,14 @@ record Passes (p : ℕ → Bool) (low n x : ℕ) : Type 0 where
   above : low ≤ x
   below : x < low + n
 
-find_stops : (p : ℕ → Bool) (low n d : ℕ) → Passes p low n (unwrap_or (find p (count_up low n)) d) ⊎ (unwrap_or (find p (count_up low n)) d ≡ d)
+find_stops : (p : ℕ → Bool) (low n d : ℕ) → Passes p low n (unwrap_or (find p (range_with_len low n)) d) ⊎ (unwrap_or (find p (range_with_len low n)) d ≡ d)
 find_stops p low zero d = inr refl
 find_stops p low (suc n) d =
     elim (cases_Bool (p low)) [
       | inl here ↦ rw here (inl (record { passes = here; above = omega arith; below = omega arith }))
       | inr not_here ↦
           rw not_here
-          (elim (find_stops p (suc low) n d) [
+          (elim (find_stops p (low + 1) n d) [
             | inl found ↦ inl (record { passes = found.passes; above = omega (arith, found.above); below = omega (arith, found.below) })
             | inr none ↦ inr none
           ])

@@ -2,7 +2,7 @@
 -- of LBFS (SOSP 2001, section 3.1). That windows never restart at a cut, and the rule of the next cut, are this project's
 -- own.
 use Rattle.std.specs.Prelude.{◌≡◌, ◌⊎◌, ℕ, zero, suc, ◌+◌, ◌-◌, ◌%◌, ◌^◌, ◌<◌, ◌≤◌, ◌==◌, ◌&&◌, nat_lt, nat_le, min, Bool, if◌then◌else◌, IsTrue, List, [], ◌∷◌, length, slice_range, unwrap_or}
-use Rattle.std.specs.List.{find}
+use Rattle.std.specs.List.{find, range_with_len}
 use Rattle.sd_base.specs.Polynomial.{fingerprint}
 use Rattle.sd_base.specs.declared.limits.TheConstants.{WINDOW}
 use Rattle.sd_base.specs.declared.raw_params.RawParams.{RawParams}
@@ -23,19 +23,14 @@ IsCandidate params input p = IsTrue (is_candidate params input p)
 abbrev pub furthest : RawParams → List ℕ → ℕ → ℕ
 furthest params input s = min (s + params.max) (length input)
 
--- n numbers, from low on
-abbrev pub count_up : ℕ → ℕ → List ℕ
-count_up low zero = []
-count_up low (suc n) = low ∷ count_up (suc low) n
-
 -- the positions from low up to and with high
-abbrev pub positions : ℕ → ℕ → List ℕ
-positions low high = count_up low (suc high - low)
+abbrev pub inclusive_range : ℕ → ℕ → List ℕ
+inclusive_range low high = range_with_len low (suc high - low)
 
 -- the next cut from s: the first candidate from s + min up to the furthest position, or that position where there is none
 unfoldable pub next_cut : RawParams → List ℕ → ℕ → ℕ
 next_cut params input s =
-    unwrap_or (find (is_candidate params input) (positions (s + params.min) (furthest params input s)))
+    unwrap_or (find (is_candidate params input) (inclusive_range (s + params.min) (furthest params input s)))
     (furthest params input s)
 
 -- a candidate at which a chunk from s may end

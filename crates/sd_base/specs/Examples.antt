@@ -4,12 +4,13 @@
 use Rattle.std.specs.Prelude.{◌≡◌, ℕ, ◌^◌, List, [], ◌∷◌, ◌++◌, replicate, take, codes, true, false, Some, None, Ok}
 use Rattle.std.specs.Int.Count.{count_leading_zeros}
 use Rattle.std.specs.Fmt.{digits}
+use Rattle.std.specs.List.{range_with_len}
 use Rattle.std.proofs.Common.{refl, lit<, lit≤}
 use Rattle.hex.specs.Hex.{encode_with}
 use Rattle.sha2.specs.Sha256.{sha256, digest_bytes, hash_after, compress, rounds, schedule, first_words}
 use Rattle.sd_base.specs.Parameters.{IsValid}
 use Rattle.sd_base.specs.Polynomial.{remainder, fingerprint}
-use Rattle.sd_base.specs.Cutting.{is_match, count_up, next_cut, cuts_within, cuts_of, chunks_of}
+use Rattle.sd_base.specs.Cutting.{is_match, next_cut, cuts_within, cuts_of, chunks_of}
 use Rattle.sd_base.specs.Names.{bad_name}
 use Rattle.sd_base.specs.Packing.{packing}
 use Rattle.sd_base.specs.Words.{default_params, default_plan, bad_word, command_of}
@@ -112,7 +113,7 @@ unfolding count_leading_zeros
 remainder-of_384_ones = refl
 
 -- the bytes 0 to 47, under the default polynomial
-pub fingerprint-of_counting_bytes : fingerprint default_params.polynomial (count_up 0 48) ≡ 4967560356722810
+pub fingerprint-of_counting_bytes : fingerprint default_params.polynomial (range_with_len 0 48) ≡ 4967560356722810
 unfolding count_leading_zeros
 fingerprint-of_counting_bytes = refl
 

@@ -13,8 +13,8 @@ name_byte c = is_ascii_alphanumeric c || c == 46 || c == 95 || c == 45
 
 -- the bytes are a name of a session
 pub record IsName (bytes : List ℕ) : Type 0 where
-  pub some : 1 ≤ length bytes
-  pub few : length bytes ≤ MAX_NAME
+  pub not_empty : 1 ≤ length bytes
+  pub within_limit : length bytes ≤ MAX_NAME
   pub first : IsTrue (is_ascii_alphanumeric (slice_index bytes 0))
   pub letters : All (λ c. IsTrue (name_byte c)) bytes
 

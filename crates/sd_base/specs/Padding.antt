@@ -13,13 +13,13 @@ pub record IsPadded (name : Inside) : Type 0 where
   pub whole : length name.padded ≡ MAX_NAME
   pub zeros : drop name.len name.padded ≡ replicate (MAX_NAME - name.len) 0
 
-abbrev pub bytes_in : Inside → List ℕ
-bytes_in name = take name.len name.padded
+abbrev pub name_bytes : Inside → List ℕ
+name_bytes name = take name.len name.padded
 
 abbrev pub padded_of : List ℕ → Inside
 padded_of bytes = record { padded = bytes ++ replicate (MAX_NAME - length bytes) 0; len = length bytes }
 
-pub padded_of-bytes_in : (name : Inside) → IsPadded name → padded_of (bytes_in name) ≡ name
-padded_of-bytes_in name holds =
+pub padded_of-name_bytes : (name : Inside) → IsPadded name → padded_of (name_bytes name) ≡ name
+padded_of-name_bytes name holds =
     let within : name.len ≤ length name.padded = omega (arith, holds.within, holds.whole) in
     rw (length-take-le name.len name.padded within, ← holds.zeros, take-append-drop name.len name.padded) refl

@@ -7,8 +7,8 @@
 mod damage;
 mod laws;
 mod limits;
-mod memory;
 mod name;
+mod out_of_memory;
 mod outcome;
 mod params;
 mod raw_params;
@@ -25,8 +25,8 @@ pub use limits::{
     DEFAULT_TARGET, DEFAULT_WORKERS, MAX_BITS, MAX_CHUNK_LEN, MAX_CHUNKS, MAX_CONTAINER, MAX_INPUT,
     MAX_NAME, MAX_PLACES, MAX_SESSIONS, MIN_CHUNK_LEN, MIN_POLYNOMIAL, WINDOW,
 };
-pub use memory::OutOfMemory;
 pub use name::{BadName, Name};
+pub use out_of_memory::OutOfMemory;
 pub use outcome::Outcome;
 pub use params::{BadParams, Params};
 pub use raw_params::RawParams;

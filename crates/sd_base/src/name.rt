@@ -34,15 +34,15 @@ impl Model for Name {
 
     ghost Value = { List ℕ };
 
-    ghost use Rattle.sd_base.specs.Padding.{IsPadded, bytes_in, padded_of, padded_of-bytes_in};
+    ghost use Rattle.sd_base.specs.Padding.{IsPadded, name_bytes, padded_of, padded_of-name_bytes};
 
-    ghost view = { bytes_in };
+    ghost view = { name_bytes };
 
     ghost invariant = { IsPadded };
 
     ghost inverse = { padded_of };
 
-    ghost inverse_ok = { padded_of-bytes_in };
+    ghost inverse_ok = { padded_of-name_bytes };
 }
 
 impl PartialEq for Name {
