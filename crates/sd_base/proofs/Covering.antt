@@ -5,11 +5,11 @@ use Rattle.std.proofs.lemmas.Bool.{cases_lt}
 use Rattle.std.proofs.lemmas.List.{drop_all}
 use Rattle.std.proofs.lemmas.List.Folds.{drop_split}
 use Rattle.std.proofs.lemmas.List.Elements.{All-from_recursion}
-use Rattle.sd_base.specs.Cutting.{next_cut, cuts_within, parts, chunks_of}
+use Rattle.sd_base.specs.Cutting.{next_cut, cuts_within, chunks_between, chunks_of}
 use Rattle.sd_base.specs.declared.raw_params.RawParams.{RawParams}
 use Rattle.sd_base.proofs.Cutting.{cuts_within_more, cuts_within_all, next_cut-le, lt-next_cut, add-le-next_cut}
 
--- the length of a part
+-- the length of a range
 pub length-slice_range : (input : List ℕ) (a b : ℕ) → b ≤ length input → length (slice_range input a b) ≡ b - a
 length-slice_range input a b inside = omega (arith, length-take (b - a) (drop a input), length-drop a input)
 
@@ -22,13 +22,13 @@ reach_cons least chunk chunks first others zero more = first (omega arith)
 reach_cons least chunk chunks first others (suc i) more = others i (omega arith)
 
 module _ (params : RawParams) (input : List ℕ) (some : 1 ≤ params.min) (ordered : params.min ≤ params.max) where
-  -- at most n parts from s on
+  -- at most n chunks, from s on
   left : ℕ → ℕ → List (List ℕ)
-  left n s = parts input s (cuts_within n params input s)
+  left n s = chunks_between input s (cuts_within n params input s)
 
   left_more : (n s : ℕ) → s < length input → left (suc n) s ≡ slice_range input s (next_cut params input s) ∷ left n (next_cut params input s)
   unfolding left
-  left_more n s inside = ap (parts input s) (cuts_within_more params input s n inside)
+  left_more n s inside = ap (chunks_between input s) (cuts_within_more params input s n inside)
 
   left_none : (s : ℕ) → left 0 s ≡ []
   unfolding left cuts_within
@@ -36,7 +36,7 @@ module _ (params : RawParams) (input : List ℕ) (some : 1 ≤ params.min) (orde
 
   left_all : (n s : ℕ) → length input ≤ s → left n s ≡ []
   unfolding left
-  left_all n s past = ap (parts input s) (cuts_within_all params input s n past)
+  left_all n s past = ap (chunks_between input s) (cuts_within_all params input s n past)
 
   concat-left : (n s : ℕ) → length input ≤ s + n → concat (left n s) ≡ drop s input
   concat-left zero s enough = ap concat (left_all 0 s (omega arith)) ∙ sym (drop_all s input (omega arith))

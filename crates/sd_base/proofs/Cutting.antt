@@ -2,12 +2,13 @@
 use Rattle.std.proofs.Common.{◌≡◌, ◌⊎◌, inl, inr, ℕ, zero, suc, ◌+◌, ◌-◌, ◌<◌, ◌≤◌, min, Bool, true, false, unwrap_or, find, List, [], ◌∷◌, ◌++◌, length, slice_range, refl, sym, ap, ◌∙◌, append_assoc, append-nil, le_antisymm, arith}
 use Rattle.std.specs.List.{range_with_len}
 use Rattle.std.proofs.lemmas.Bool.{cases_Bool, lt-ltb, le-ltb, le-leb, cases_lt}
-use Rattle.sd_base.specs.Cutting.{is_match, is_candidate, furthest, next_cut, IsNextCut, cuts_within, cuts_of, parts, chunks_of}
+use Rattle.sd_base.specs.Cutting.{is_match, is_candidate, furthest, next_cut, IsNextCut, cuts_within, cuts_of, chunks_between, chunks_of}
+use Rattle.sd_base.specs.declared.limits.TheConstants.{WINDOW}
 use Rattle.sd_base.specs.declared.raw_params.RawParams.{RawParams}
 
 -- a position with a whole window before it is a candidate where the window is a match
-pub is_candidate_here : (params : RawParams) (input : List ℕ) (p : ℕ) → 48 ≤ p → p ≤ length input → is_candidate params input p ≡ is_match params (slice_range input (p - 48) p)
-is_candidate_here params input p window within = rw (le-leb 48 p window, le-leb p (length input) within)
+pub is_candidate_here : (params : RawParams) (input : List ℕ) (p : ℕ) → WINDOW ≤ p → p ≤ length input → is_candidate params input p ≡ is_match params (slice_range input (p - WINDOW) p)
+is_candidate_here params input p window within = rw (le-leb WINDOW p window, le-leb p (length input) within)
 
 -- a search of the numbers from low on stops at no number above one that passes
 find_least : (p : ℕ → Bool) (low n d q : ℕ) → p q ≡ true → low ≤ q → q < low + n → unwrap_or (find p (range_with_len low n)) d ≤ q
@@ -143,13 +144,13 @@ module _ (params : RawParams) (input : List ℕ) (some : 1 ≤ params.min) (orde
       so_far ∙ ap (λ (cs : List ℕ). cuts ++ cs) (cuts_within_all params input s n past) ∙ append-nil cuts
 
   -- a loop that pushes chunks, one step on
-  pub chunks_of_push : (chunks : List (List ℕ)) (n m s : ℕ) → s < length input → length input ≤ s + n → length input ≤ next_cut params input s + m → chunks_of params input ≡ chunks ++ parts input s (cuts_within n params input s) → chunks_of params input ≡ (chunks ++ slice_range input s (next_cut params input s) ∷ []) ++ parts input (next_cut params input s) (cuts_within m params input (next_cut params input s))
+  pub chunks_of_push : (chunks : List (List ℕ)) (n m s : ℕ) → s < length input → length input ≤ s + n → length input ≤ next_cut params input s + m → chunks_of params input ≡ chunks ++ chunks_between input s (cuts_within n params input s) → chunks_of params input ≡ (chunks ++ slice_range input s (next_cut params input s) ∷ []) ++ chunks_between input (next_cut params input s) (cuts_within m params input (next_cut params input s))
   chunks_of_push chunks n m s inside enough enough_left so_far =
       so_far
-      ∙ ap (λ (cs : List ℕ). chunks ++ parts input s cs) (cuts_within_cons n m s inside enough enough_left)
-      ∙ sym (append_assoc chunks (slice_range input s (next_cut params input s) ∷ []) (parts input (next_cut params input s) (cuts_within m params input (next_cut params input s))))
+      ∙ ap (λ (cs : List ℕ). chunks ++ chunks_between input s cs) (cuts_within_cons n m s inside enough enough_left)
+      ∙ sym (append_assoc chunks (slice_range input s (next_cut params input s) ∷ []) (chunks_between input (next_cut params input s) (cuts_within m params input (next_cut params input s))))
 
   -- and at the end of the input
-  pub chunks_of_all : (chunks : List (List ℕ)) (n s : ℕ) → length input ≤ s → chunks_of params input ≡ chunks ++ parts input s (cuts_within n params input s) → chunks_of params input ≡ chunks
+  pub chunks_of_all : (chunks : List (List ℕ)) (n s : ℕ) → length input ≤ s → chunks_of params input ≡ chunks ++ chunks_between input s (cuts_within n params input s) → chunks_of params input ≡ chunks
   chunks_of_all chunks n s past so_far =
-      so_far ∙ ap (λ (cs : List ℕ). chunks ++ parts input s cs) (cuts_within_all params input s n past) ∙ append-nil chunks
+      so_far ∙ ap (λ (cs : List ℕ). chunks ++ chunks_between input s cs) (cuts_within_all params input s n past) ∙ append-nil chunks

@@ -3,6 +3,7 @@ use Rattle.std.proofs.Common.{◌≡◌, ℕ, ◌-◌, ◌≤◌, Bool, ◌&&◌
 use Rattle.std.proofs.lemmas.Bool.{le-leb}
 use Rattle.std.proofs.lemmas.List.{take-append-le, drop-append-le}
 use Rattle.sd_base.specs.Cutting.{is_match, is_candidate}
+use Rattle.sd_base.specs.declared.limits.TheConstants.{WINDOW}
 use Rattle.sd_base.specs.declared.raw_params.RawParams.{RawParams}
 
 -- a range of a front
@@ -16,5 +17,5 @@ module _ (params : RawParams) (front rest : List ℕ) where
   pub is_candidate-append : (p : ℕ) → p ≤ length front → is_candidate params (front ++ rest) p ≡ is_candidate params front p
   is_candidate-append p inside =
       let further : p ≤ length (front ++ rest) = omega (arith, length-append front rest) in
-      ap (λ (within : Bool). nat_le 48 p && within && is_match params (slice_range (front ++ rest) (p - 48) p)) (le-leb p (length (front ++ rest)) further ∙ sym (le-leb p (length front) inside))
-      ∙ ap (λ (window : List ℕ). nat_le 48 p && nat_le p (length front) && is_match params window) (slice_range-append front rest (p - 48) p (omega arith) inside)
+      ap (λ (within : Bool). nat_le WINDOW p && within && is_match params (slice_range (front ++ rest) (p - WINDOW) p)) (le-leb p (length (front ++ rest)) further ∙ sym (le-leb p (length front) inside))
+      ∙ ap (λ (window : List ℕ). nat_le WINDOW p && nat_le p (length front) && is_match params window) (slice_range-append front rest (p - WINDOW) p (omega arith) inside)

@@ -1,5 +1,5 @@
--- The names of sessions: 1 to 64 ASCII letters, digits, `.`, `_` and `-`, of which the first is a letter or a digit. So no
--- name has a slash or a `=`, or begins with a dot, a dash or a `_`. Defined by this project.
+-- The names of sessions: 1 to 64 ASCII letters, digits, `.`, `_` and `-`. The first is a letter or a
+-- digit. So no name has a slash or a `=`, or begins with a dot, a dash or a `_`.
 use Rattle.std.specs.Prelude.{ℕ, ◌≤◌, ◌==◌, ◌&&◌, ◌||◌, nat_le, Bool, not, if◌then◌else◌, IsTrue, List, length, slice_index, Option, Some, None}
 use Rattle.std.specs.Char.{is_ascii_alphanumeric}
 use Rattle.std.specs.List.{All, list_all}
@@ -7,7 +7,7 @@ use Rattle.sd_base.specs.declared.limits.TheConstants.{MAX_NAME}
 use Rattle.sd_base.specs.declared.name.BadName.{BadName}
 use Rattle.sd_base.specs.declared.name.BadName.TheVariants.{Length, Letter}
 
--- whether a byte may stand in a name: a letter, a digit, or one of `.`, `_` and `-`
+-- whether a byte is allowed in a name: a letter, a digit, `.`, `_` or `-`
 abbrev pub name_byte : ℕ → Bool
 name_byte c = is_ascii_alphanumeric c || c == 46 || c == 95 || c == 45
 

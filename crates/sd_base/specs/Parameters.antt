@@ -1,12 +1,12 @@
--- The numbers that steer cutting. The ranges are this project's own; that low-order bits of a fingerprint are compared,
--- and that there is a minimum and a maximum, is from LBFS (SOSP 2001, section 3.1).
+-- The numbers that steer cutting. That low-order bits of a fingerprint are compared, and that there is
+-- a minimum and a maximum, is from LBFS (SOSP 2001, section 3.1). The ranges are this project's own.
 use Rattle.std.specs.Prelude.{◌≡◌, ℕ, ◌%◌, ◌^◌, ◌<◌, ◌≤◌, ◌==◌, ◌||◌, nat_lt, nat_le, if◌then◌else◌, Option, Some, None}
 use Rattle.sd_base.specs.declared.limits.TheConstants.{MIN_POLYNOMIAL, MAX_BITS, MIN_CHUNK_LEN, MAX_CHUNK_LEN}
 use Rattle.sd_base.specs.declared.raw_params.RawParams.{RawParams}
 use Rattle.sd_base.specs.declared.params.BadParams.{BadParams}
 use Rattle.sd_base.specs.declared.params.BadParams.TheVariants.{Polynomial, Bits, Target, Min, Max}
 
--- the coefficients of a polynomial whose degree, the place of its highest set bit, is 16 to 63, with the constant term 1
+-- the coefficients of a polynomial of degree 16 to 63 with the constant term 1
 abbrev pub IsPolynomial : ℕ → Type 0
 IsPolynomial p = (MIN_POLYNOMIAL ≤ p) × (p < 2 ^ 64) × (p % 2 ≡ 1)
 
