@@ -1,4 +1,4 @@
--- The chunks of an input, joined, are the input, and have the sizes that the parameters ask for.
+-- The chunks of an input join to the input, and have the sizes that the parameters ask for.
 use Rattle.std.proofs.Common.{◌≡◌, inl, inr, ℕ, zero, suc, ◌+◌, ◌-◌, ◌<◌, ◌≤◌, min, List, [], ◌∷◌, ◌++◌, length, drop, slice_range, slice_index_or, refl, sym, ap, subst, ◌∙◌, length-take, length-drop, arith}
 use Rattle.std.specs.List.{All, AllByRecursion, concat}
 use Rattle.std.proofs.lemmas.Bool.{cases_lt}
@@ -10,14 +10,17 @@ use Rattle.sd_base.specs.declared.raw_params.RawParams.{RawParams}
 use Rattle.sd_base.proofs.Cutting.{cuts_within_more, cuts_within_all, next_cut-le, lt-next_cut, add-le-next_cut}
 
 -- the length of a range
-pub length-slice_range : (input : List ℕ) (a b : ℕ) → b ≤ length input → length (slice_range input a b) ≡ b - a
+pub length-slice_range :
+    (input : List ℕ) (a b : ℕ) → b ≤ length input → length (slice_range input a b) ≡ b - a
 length-slice_range input a b inside = omega (arith, length-take (b - a) (drop a input), length-drop a input)
 
--- all of these but the last have so many bytes
+-- all chunks except the last have at least so many bytes
 abbrev AllButLastReach : ℕ → List (List ℕ) → Type 0
 AllButLastReach least chunks = (i : ℕ) → i + 1 < length chunks → least ≤ length (slice_index_or chunks i [])
 
-reach_cons : (least : ℕ) (chunk : List ℕ) (chunks : List (List ℕ)) → (1 ≤ length chunks → least ≤ length chunk) → AllButLastReach least chunks → AllButLastReach least (chunk ∷ chunks)
+reach_cons :
+    (least : ℕ) (chunk : List ℕ) (chunks : List (List ℕ)) → (1 ≤ length chunks → least ≤ length chunk) →
+    AllButLastReach least chunks → AllButLastReach least (chunk ∷ chunks)
 reach_cons least chunk chunks first others zero more = first (omega arith)
 reach_cons least chunk chunks first others (suc i) more = others i (omega arith)
 
@@ -26,7 +29,9 @@ module _ (params : RawParams) (input : List ℕ) (some : 1 ≤ params.min) (orde
   left : ℕ → ℕ → List (List ℕ)
   left n s = chunks_between input s (cuts_within n params input s)
 
-  left_more : (n s : ℕ) → s < length input → left (suc n) s ≡ slice_range input s (next_cut params input s) ∷ left n (next_cut params input s)
+  left_more :
+      (n s : ℕ) → s < length input →
+      left (suc n) s ≡ slice_range input s (next_cut params input s) ∷ left n (next_cut params input s)
   unfolding left
   left_more n s inside = ap (chunks_between input s) (cuts_within_more params input s n inside)
 
@@ -88,7 +93,7 @@ module _ (params : RawParams) (input : List ℕ) (some : 1 ≤ params.min) (orde
         | inr past ↦ subst P (sym (left_all (suc n) s past)) (λ i more. absurd (omega arith))
       ]
 
-  -- the three facts for all chunks
+  -- the three facts about all chunks of an input
   pub concat-chunks_of : concat (chunks_of params input) ≡ input
   unfolding left
   concat-chunks_of = concat-left (length input) 0 (omega arith)
@@ -97,6 +102,8 @@ module _ (params : RawParams) (input : List ℕ) (some : 1 ≤ params.min) (orde
   unfolding left
   chunk_sizes = All-from_recursion IsFilledAndBounded (chunks_of params input) (left_sizes (length input) 0)
 
-  pub min-le-chunk : (i : ℕ) → i + 1 < length (chunks_of params input) → params.min ≤ length (slice_index_or (chunks_of params input) i [])
+  pub min-le-chunk :
+      (i : ℕ) → i + 1 < length (chunks_of params input) →
+      params.min ≤ length (slice_index_or (chunks_of params input) i [])
   unfolding left
   min-le-chunk = left_reach (length input) 0

@@ -1,4 +1,4 @@
--- Bytes with no refusal are a name, and how they are kept.
+-- Bytes are a name if and only if they are not refused, and how a `Name` keeps them.
 use Rattle.std.proofs.Common.{◌≡◌, ℕ, ◌++◌, List, length, take, drop, replicate, Bool, true, false, Some, None, arith, refl, ◌∙◌, length-append}
 use Rattle.std.proofs.Math.Seq.{take-append_seam, drop-append_seam}
 use Rattle.std.proofs.lemmas.Bool.{leb-true, le-leb, and_parts, and_from}
@@ -10,18 +10,23 @@ use Rattle.sd_base.specs.declared.name.BadName.TheVariants.{Length, Letter}
 use Rattle.sd_base.specs.Names.{IsName, bad_name, name_byte}
 use Rattle.sd_base.specs.Padding.{IsPadded}
 
--- two tests hold exactly where neither refusal comes
-tests_hold : (fits lettered : Bool) → (if not fits then Some Length else if not lettered then Some Letter else None) ≡ None → (fits ≡ true) × (lettered ≡ true)
+-- if neither refusal comes, both tests hold, and the other way round
+tests_hold :
+    (fits lettered : Bool) →
+    (if not fits then Some Length else if not lettered then Some Letter else None) ≡ None →
+    (fits ≡ true) × (lettered ≡ true)
 tests_hold true true h = (refl, refl)
 tests_hold true false h = absurd cc
 tests_hold false lettered h = absurd cc
 
-none_refused : (fits lettered : Bool) → fits ≡ true → lettered ≡ true → (if not fits then Some Length else if not lettered then Some Letter else None) ≡ None
+none_refused :
+    (fits lettered : Bool) → fits ≡ true → lettered ≡ true →
+    (if not fits then Some Length else if not lettered then Some Letter else None) ≡ None
 none_refused true true _ _ = refl
 none_refused true false _ h = absurd cc
 none_refused false lettered h _ = absurd cc
 
--- a name has no refusal, and bytes with no refusal are a name
+-- bytes are a name if and only if they are not refused
 pub IsName_is_no_refusal : (bytes : List ℕ) → IsName bytes ↔ (bad_name bytes ≡ None)
 IsName_is_no_refusal bytes = (
   λ holds. none_refused _ _ (and_from _ _ (le-leb _ _ holds.not_empty) (le-leb _ _ holds.within_limit)) (and_from _ _ holds.first (list_all-from_AllPass name_byte bytes holds.letters)),
@@ -37,8 +42,11 @@ IsName_is_no_refusal bytes = (
       },
 )
 
--- bytes with zeros behind them
-pub IsPadded-from_bytes : (bytes front back : List ℕ) → bad_name bytes ≡ None → front ≡ bytes → back ≡ drop (length bytes) (replicate MAX_NAME 0) → IsPadded (record { padded = front ++ back; len = length bytes })
+-- bytes that are a name, with zeros after them, are what a `Name` keeps
+pub IsPadded-from_bytes :
+    (bytes front back : List ℕ) → bad_name bytes ≡ None → front ≡ bytes →
+    back ≡ drop (length bytes) (replicate MAX_NAME 0) →
+    IsPadded (record { padded = front ++ back; len = length bytes })
 IsPadded-from_bytes bytes front back none same rest =
     let lawful : IsName bytes = (IsName_is_no_refusal bytes).1 none in
     let front_is : take (length bytes) (front ++ back) ≡ bytes = rw same (take-append_seam bytes back) in

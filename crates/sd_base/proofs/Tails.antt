@@ -1,5 +1,6 @@
--- What is left of an input behind a position is cut as the whole input is from there: the window that decides a cut lies
--- behind the start of its chunk, since no chunk but the last is shorter than a window.
+-- The rest of an input after a cut is cut as the whole input is from there. The reason is that the
+-- window that decides a cut lies in the chunk that it ends: no chunk except the last is shorter than
+-- a window.
 use Rattle.std.proofs.Common.{◌≡◌, inl, inr, ℕ, zero, suc, ◌+◌, ◌-◌, ◌<◌, ◌≤◌, Bool, ◌&&◌, nat_le, List, [], ◌∷◌, ◌++◌, length, take, drop, slice_range, refl, sym, ap, ap₂, ◌∙◌, add-zero, append_assoc, length-drop, drop-drop, arith}
 use Rattle.std.proofs.Math.Nat.{sub-zero}
 use Rattle.std.proofs.lemmas.Bool.{cases_lt, le-leb, lt-leb}
@@ -8,7 +9,7 @@ use Rattle.sd_base.specs.declared.limits.TheConstants.{WINDOW}
 use Rattle.sd_base.specs.declared.raw_params.RawParams.{RawParams}
 use Rattle.sd_base.proofs.Cutting.{IsNextCut-next_cut, next_cut_is, cuts_within_more, cuts_within_all, cuts_within_same, cuts_within_cons, next_cut-le}
 
--- two tests of an order agree where the orders do
+-- two tests of an order have the same result if each order follows from the other
 leb_same : (a b c d : ℕ) → (a ≤ b → c ≤ d) → (c ≤ d → a ≤ b) → nat_le a b ≡ nat_le c d
 leb_same a b c d there back =
     elim (cases_lt b a) [
@@ -17,14 +18,17 @@ leb_same a b c d there back =
     ]
 
 -- a range of a tail
-pub slice_range-drop : (input : List ℕ) (k a b : ℕ) → slice_range (drop k input) a b ≡ slice_range input (k + a) (k + b)
+pub slice_range-drop :
+    (input : List ℕ) (k a b : ℕ) → slice_range (drop k input) a b ≡ slice_range input (k + a) (k + b)
 slice_range-drop input k a b =
     let e : b - a ≡ k + b - (k + a) = omega arith in
     ap (λ (r : List ℕ). take (b - a) r) (drop-drop a k input) ∙ ap (λ (n : ℕ). take n (drop (k + a) input)) e
 
 module _ (params : RawParams) (input : List ℕ) (k : ℕ) (inside : k ≤ length input) where
-  -- a position that has a whole window in the tail is a candidate there where it is one in the whole input
-  pub is_candidate-drop : (p : ℕ) → WINDOW ≤ p → is_candidate params (drop k input) p ≡ is_candidate params input (k + p)
+  -- a position with a whole window in the tail is a candidate of the tail if it is one of the whole
+  -- input, and not otherwise
+  pub is_candidate-drop :
+      (p : ℕ) → WINDOW ≤ p → is_candidate params (drop k input) p ≡ is_candidate params input (k + p)
   is_candidate-drop p window =
       let left : length (drop k input) ≡ length input - k = length-drop k input in
       let first : nat_le WINDOW p ≡ nat_le WINDOW (k + p) = leb_same WINDOW p WINDOW (k + p) (λ _. omega arith) (λ _. omega arith) in
@@ -39,8 +43,10 @@ module _ (params : RawParams) (input : List ℕ) (k : ℕ) (inside : k ≤ lengt
       ∙ ap (λ (w : List ℕ). nat_le WINDOW (k + p) && nat_le (k + p) (length input) && is_match params w) third
 
   module _ (window : WINDOW ≤ params.min) where
-    -- what may end a chunk of the tail may end that chunk in the whole input, and the other way round
-    MayEndAt-from_tail : (s p : ℕ) → MayEndAt params (drop k input) s p → MayEndAt params input (k + s) (k + p)
+    -- a position at which a chunk of the tail may end is one at which that chunk may end in the
+    -- whole input, and the other way round
+    MayEndAt-from_tail :
+        (s p : ℕ) → MayEndAt params (drop k input) s p → MayEndAt params input (k + s) (k + p)
     MayEndAt-from_tail s p may =
         record {
           candidate = sym (is_candidate-drop p (omega (arith, may.long_enough))) ∙ may.candidate;
@@ -79,7 +85,9 @@ module _ (params : RawParams) (input : List ℕ) (k : ℕ) (inside : k ≤ lengt
         })
 
     -- and so are the chunks between cuts
-    chunks_between-drop : (n s : ℕ) → chunks_between input (k + s) (cuts_within n params input (k + s)) ≡ chunks_between (drop k input) s (cuts_within n params (drop k input) s)
+    chunks_between-drop :
+        (n s : ℕ) →
+        chunks_between input (k + s) (cuts_within n params input (k + s)) ≡ chunks_between (drop k input) s (cuts_within n params (drop k input) s)
     unfolding cuts_within
     chunks_between-drop zero s = refl
     chunks_between-drop (suc n) s =
@@ -105,8 +113,10 @@ module _ (params : RawParams) (input : List ℕ) (k : ℕ) (inside : k ≤ lengt
               ∙ sym (ap (chunks_between rest s) (cuts_within_all params rest s (suc n) past_too))
         ]
 
-    -- what is left to cut of the whole input from a position is the chunks of what is left behind it
-    pub chunks_of-drop : params.min ≤ params.max → (n : ℕ) → length input ≤ k + n → chunks_between input k (cuts_within n params input k) ≡ chunks_of params (drop k input)
+    -- the chunks of the whole input from a position on are the chunks of the rest after it
+    pub chunks_of-drop :
+        params.min ≤ params.max → (n : ℕ) → length input ≤ k + n →
+        chunks_between input k (cuts_within n params input k) ≡ chunks_of params (drop k input)
     chunks_of-drop ordered n enough =
         let m = length (drop k input) in
         ap (chunks_between input k) (cuts_within_same params input (omega arith) ordered n m k enough (omega (arith, length-drop k input)))
@@ -114,7 +124,9 @@ module _ (params : RawParams) (input : List ℕ) (k : ℕ) (inside : k ≤ lengt
         ∙ chunks_between-drop m 0
 
 -- the chunks of an input are the first one and those of the rest
-pub chunks_of_cons : (params : RawParams) (input : List ℕ) → WINDOW ≤ params.min → params.min ≤ params.max → 1 ≤ length input → chunks_of params input ≡ take (next_cut params input 0) input ∷ chunks_of params (drop (next_cut params input 0) input)
+pub chunks_of_cons :
+    (params : RawParams) (input : List ℕ) → WINDOW ≤ params.min → params.min ≤ params.max → 1 ≤ length input →
+    chunks_of params input ≡ take (next_cut params input 0) input ∷ chunks_of params (drop (next_cut params input 0) input)
 chunks_of_cons params input window ordered some =
     let c = next_cut params input 0 in
     let inside : c ≤ length input = omega (arith, next_cut-le params input 0) in
@@ -123,9 +135,13 @@ chunks_of_cons params input window ordered some =
     (ap (λ (n : ℕ). take n input) (sub-zero c))
     (chunks_of-drop params input c inside window ordered (length input) (omega arith))
 
--- A loop that takes chunks off the front of what is left: those that it has and those of the rest are all, one step on
--- too.
-pub chunks_of_next : (params : RawParams) (input : List ℕ) → WINDOW ≤ params.min → params.min ≤ params.max → (chunks : List (List ℕ)) (s : ℕ) → s < length input → chunks_of params input ≡ chunks ++ chunks_of params (drop s input) → chunks_of params input ≡ (chunks ++ take (next_cut params (drop s input) 0) (drop s input) ∷ []) ++ chunks_of params (drop (s + next_cut params (drop s input) 0) input)
+-- For a loop that takes chunks off the front of the rest: all chunks are those that it has taken and
+-- those of the rest. If it takes the next one, this still holds.
+pub chunks_of_next :
+    (params : RawParams) (input : List ℕ) → WINDOW ≤ params.min → params.min ≤ params.max →
+    (chunks : List (List ℕ)) (s : ℕ) → s < length input →
+    chunks_of params input ≡ chunks ++ chunks_of params (drop s input) →
+    chunks_of params input ≡ (chunks ++ take (next_cut params (drop s input) 0) (drop s input) ∷ []) ++ chunks_of params (drop (s + next_cut params (drop s input) 0) input)
 chunks_of_next params input window ordered chunks s inside so_far =
     let rest = drop s input in
     let c = next_cut params rest 0 in

@@ -1,6 +1,6 @@
--- Where an input is cut. Position p of an input lies after its first p bytes. The test of a window's
--- low-order bits, the minimum and the maximum are those of LBFS (SOSP 2001, section 3.1). That
--- windows do not restart at a cut, and the rule of the next cut, are this project's own.
+-- Where an input is cut. Position p of an input lies after its first p bytes. The test of a
+-- window's low-order bits, the minimum and the maximum are those of LBFS (SOSP 2001, section 3.1).
+-- That windows do not restart at a cut, and the rule of the next cut, are this project's own.
 use Rattle.std.specs.Prelude.{◌≡◌, ◌⊎◌, ℕ, zero, suc, ◌+◌, ◌-◌, ◌%◌, ◌^◌, ◌<◌, ◌≤◌, ◌==◌, ◌&&◌, nat_lt, nat_le, min, Bool, if◌then◌else◌, IsTrue, List, [], ◌∷◌, length, slice_range, unwrap_or}
 use Rattle.std.specs.List.{find, range_with_len}
 use Rattle.sd_base.specs.Polynomial.{fingerprint}
@@ -27,8 +27,8 @@ furthest params input s = min (s + params.max) (length input)
 abbrev pub inclusive_range : ℕ → ℕ → List ℕ
 inclusive_range low high = range_with_len low (suc high - low)
 
--- the next cut from s: the first candidate from s + min up to the furthest position, or the furthest
--- position if there is none
+-- the next cut from s: the first candidate from s + min up to the furthest position, or the
+-- furthest position if there is none
 unfoldable pub next_cut : RawParams → List ℕ → ℕ → ℕ
 next_cut params input s =
     unwrap_or (find (is_candidate params input) (inclusive_range (s + params.min) (furthest params input s)))
@@ -40,8 +40,8 @@ pub record MayEndAt (params : RawParams) (input : List ℕ) (s p : ℕ) : Type 0
   pub long_enough : s + params.min ≤ p
   pub within : p ≤ furthest params input s
 
--- The same rule with no search in it: no candidate at which the chunk may end is below the cut, and the
--- cut is such a candidate or the furthest position.
+-- The same rule with no search in it: no candidate at which the chunk may end is below the cut, and
+-- the cut is such a candidate or the furthest position.
 pub record IsNextCut (params : RawParams) (input : List ℕ) (s cut : ℕ) : Type 0 where
   pub least : (p : ℕ) → MayEndAt params input s p → cut ≤ p
   pub ends : MayEndAt params input s cut ⊎ (cut ≡ furthest params input s)
@@ -55,8 +55,8 @@ cuts_within (suc n) params input s =
     then next_cut params input s ∷ cuts_within n params input (next_cut params input s)
     else []
 
--- the cuts of an input: under valid parameters no chunk is empty, so there are at most as many cuts as
--- bytes
+-- the cuts of an input: under valid parameters no chunk is empty, so there are at most as many cuts
+-- as bytes
 abbrev pub cuts_of : RawParams → List ℕ → List ℕ
 cuts_of params input = cuts_within (length input) params input 0
 

@@ -1,5 +1,5 @@
--- The names of sessions: 1 to 64 ASCII letters, digits, `.`, `_` and `-`. The first is a letter or a
--- digit. So no name has a slash or a `=`, or begins with a dot, a dash or a `_`.
+-- The names of sessions: 1 to 64 ASCII letters, digits, `.`, `_` and `-`. The first is a letter or
+-- a digit. So no name has a slash or a `=`, or begins with a dot, a dash or a `_`.
 use Rattle.std.specs.Prelude.{ℕ, ◌≤◌, ◌==◌, ◌&&◌, ◌||◌, nat_le, Bool, not, if◌then◌else◌, IsTrue, List, length, slice_index, Option, Some, None}
 use Rattle.std.specs.Char.{is_ascii_alphanumeric}
 use Rattle.std.specs.List.{All, list_all}

@@ -1,5 +1,6 @@
--- The numbers that steer cutting. That low-order bits of a fingerprint are compared, and that there is
--- a minimum and a maximum, is from LBFS (SOSP 2001, section 3.1). The ranges are this project's own.
+-- The numbers that steer cutting. That low-order bits of a fingerprint are compared, and that there
+-- is a minimum and a maximum, is from LBFS (SOSP 2001, section 3.1). The ranges are this project's
+-- own.
 use Rattle.std.specs.Prelude.{◌≡◌, ℕ, ◌%◌, ◌^◌, ◌<◌, ◌≤◌, ◌==◌, ◌||◌, nat_lt, nat_le, if◌then◌else◌, Option, Some, None}
 use Rattle.sd_base.specs.declared.limits.TheConstants.{MIN_POLYNOMIAL, MAX_BITS, MIN_CHUNK_LEN, MAX_CHUNK_LEN}
 use Rattle.sd_base.specs.declared.raw_params.RawParams.{RawParams}

@@ -1,5 +1,5 @@
-//! Laws of the definitions in `specs/`. Each is the contract of a function that does nothing, and holds for all
-//! parameters and inputs that it names.
+//! Laws of the definitions in `specs/`. Each is the contract of a function that does nothing, and
+//! holds for all parameters and inputs that it names.
 
 ghost use Rattle.sd_base.specs.Laws.{OnePositionIsTheNextCut, AnEmptyInputHasNoChunks, TheTailIsCutAlone, ChunksJoinToTheInput, ChunksAreFilledAndBounded, ChunksReachTheMinimum, RangesAreTheRefusals, NamesAreTheRefusals};
 
@@ -8,14 +8,16 @@ pub fn next_cut_is_the_least()
     ensures { OnePositionIsTheNextCut }
 {}
 
-/// Cutting can be done a chunk at a time: what is left after a cut is cut as if it stood alone. The reason is that the
-/// least minimum is a whole window, so that the window that decides a cut lies in the chunk that it ends.
+/// Cutting can be done a chunk at a time: what is left after a cut is cut as if it stood alone. The
+/// reason is that the least minimum is a whole window, so that the window that decides a cut lies
+/// in the chunk that it ends.
 pub fn chunks_go_on_in_the_tail()
     ensures empty { AnEmptyInputHasNoChunks }
     ensures tail { TheTailIsCutAlone }
 {}
 
-/// Cutting loses nothing of an input and doubles nothing, and the sizes are those that the parameters ask for.
+/// Cutting loses nothing of an input and doubles nothing, and the sizes are those that the
+/// parameters ask for.
 pub fn chunks_cover_the_input()
     ensures joined { ChunksJoinToTheInput }
     ensures sizes { ChunksAreFilledAndBounded }

@@ -1,20 +1,22 @@
-//! The limits and the defaults. The window and the default number of bits, minimum and maximum are those of LBFS (SOSP
-//! 2001, section 3.1).
+//! The limits and the defaults. The window and the default number of bits, minimum and maximum are
+//! those of LBFS (SOSP 2001, section 3.1).
 
-/// Bytes of a window: the bytes before a position, whose fingerprint decides whether it is a candidate.
+/// Bytes of a window: the bytes before a position, whose fingerprint decides whether it is a
+/// candidate.
 pub const WINDOW: u32 = 48;
 
-/// Bytes of the longest input, 2^28: every position in an input fits a `u32`, and so does the sum of several.
+/// Bytes of the longest input, 2^28: a position plus the length of any chunk fits a `u32`.
 pub const MAX_INPUT: u32 = 268_435_456;
 
-/// The least polynomial that is allowed, of degree 16: a remainder then has at least the 16 bits that may be compared.
+/// The least polynomial that is allowed, of degree 16: a remainder then has at least the 16 bits
+/// that may be compared.
 pub const MIN_POLYNOMIAL: u64 = 0x1_0000;
 
 /// The greatest number of low bits of a fingerprint that may be compared.
 pub const MAX_BITS: u32 = 16;
 
-/// Bytes: the least `min` that is allowed. A chunk then holds the whole window that decides its end, which is why the
-/// rest of an input is cut as if it stood alone.
+/// Bytes: the least `min` that is allowed. A chunk then holds the whole window that decides its
+/// end, which is why the rest of an input is cut as if it stood alone.
 pub const MIN_CHUNK_LEN: u32 = 48;
 
 /// Bytes: the greatest `max` that is allowed.

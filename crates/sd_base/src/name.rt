@@ -17,7 +17,8 @@ use std::marker::Model;
 pub enum BadName {
     /// There is no byte, or there are more than 64.
     Length,
-    /// A byte is not an ASCII letter, a digit, `.`, `_` or `-`, or the first is neither a letter nor a digit.
+    /// A byte is not an ASCII letter, a digit, `.`, `_` or `-`, or the first is neither a letter
+    /// nor a digit.
     Letter,
 }
 
@@ -85,7 +86,8 @@ impl PartialOrd for Name {
 }
 
 impl Name {
-    /// The name of these bytes. It is refused if and only if they are no name of a session, and the error says why.
+    /// The name of these bytes. It is refused if and only if they are no name of a session, and the
+    /// error says why.
     pub fn read(bytes: &[u8]) -> Result<Name, BadName>
         ensures refused { result_err result ≡ bad_name bytes.now }
         ensures made { IfOk result (λ name. name ≡ bytes.now) }
@@ -180,12 +182,12 @@ mod tests {
     #[test]
     fn names_are_in_the_order_of_their_bytes(rt: HostRuntime) -> Result<(), Fail> {
         let rising: [&[u8]; 6] = [b"0", b"A", b"Z", b"a", b"a.b", b"ab"];
-        for (place, bytes) in rising.iter().enumerate() {
+        for (index, bytes) in rising.iter().enumerate() {
             let name = Name::read(bytes).ok().ok_or("a name")?;
-            for (other_place, bytes) in rising.iter().enumerate() {
+            for (other_index, bytes) in rising.iter().enumerate() {
                 let other = Name::read(bytes).ok().ok_or("a name")?;
-                assert_eq!(rt; name.cmp(&other), place.cmp(&other_place));
-                assert_eq!(rt; name == other, place == other_place);
+                assert_eq!(rt; name.cmp(&other), index.cmp(&other_index));
+                assert_eq!(rt; name == other, index == other_index);
             }
         }
         Ok(())

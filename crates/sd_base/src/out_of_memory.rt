@@ -1,6 +1,7 @@
 use std::alloc::{AllocError, AllocFailed};
 
-/// The error of a call that fails only if memory runs out. The call says what the caller has afterwards.
+/// The error of a call that fails only if memory runs out. The call says what the caller has
+/// afterwards.
 #[derive(Clone, Copy, Debug, PartialEq, Eq)]
 pub struct OutOfMemory;
 

@@ -21,12 +21,12 @@ pub enum BadParams {
     Max,
 }
 
-/// The numbers that steer cutting, each in its range. That low bits are compared, and that there is a minimum and a
-/// maximum, is from LBFS (SOSP 2001, section 3.1).
+/// The numbers that steer cutting, each in its range. That low bits are compared, and that there is
+/// a minimum and a maximum, is from LBFS (SOSP 2001, section 3.1).
 #[derive(Clone, Copy, Debug, PartialEq, Eq)]
 pub struct Params {
-    /// The polynomial over the two-element field, one bit a coefficient: of degree 16 to 63, with the constant term 1.
-    /// It may be irreducible or not.
+    /// The polynomial over the two-element field, one bit a coefficient: of degree 16 to 63, with
+    /// the constant term 1. It may be irreducible or not.
     pub polynomial: u64,
     /// The number of low bits of a fingerprint that are compared, from 1 to 16.
     pub bits: u32,
@@ -48,8 +48,8 @@ pub struct Params {
 impl Params {
     ghost use Rattle.sd_base.specs.Params.{numbers_of};
 
-    /// The parameters with these numbers. They are refused if and only if a number is out of its range, and the error
-    /// names the first that is.
+    /// The parameters with these numbers. They are refused if and only if a number is out of its
+    /// range, and the error names the first that is.
     pub fn new(
         polynomial: u64,
         bits: u32,

@@ -1,4 +1,5 @@
-/// Five numbers that steer cutting, as they were given: valid or not. A `Params` has such numbers that are valid.
+/// Five numbers that steer cutting, as they were given: valid or not. A `Params` has such numbers
+/// that are valid.
 #[derive(Clone, Copy, Debug, PartialEq, Eq)]
 pub struct RawParams {
     /// The polynomial over the two-element field, one bit a coefficient.
