@@ -30,5 +30,5 @@ pub use name::{BadName, Name};
 pub use outcome::Outcome;
 pub use params::{BadParams, Params};
 pub use raw_params::RawParams;
-pub use record::{IngestRecord, NewChunk, NewChunks, Recipe, Record, Session};
+pub use record::{IngestRecord, Items, NewChunk, NewChunks, Recipe, Record, Session};
 pub use words::{BadKind, BadWords, Command, Quiet};

@@ -13,84 +13,49 @@ pub struct NewChunk {
     pub name: [u8; 32],
 }
 
-/// New chunks, in order of first occurrence: contracts see a list. It is made from a `Vec` and gives it back without
-/// taking memory.
+/// A list in a record: contracts see its items. It is made from a `Vec` and gives it back without taking memory.
 #[derive(Debug, Drop)]
-pub struct NewChunks {
-    chunks: Vec<NewChunk>,
+pub struct Items<T> {
+    items: Vec<T>,
 }
 
-impl Model for NewChunks {
+impl<T> Model for Items<T> {
     ghost use Rattle.std.specs.Prelude.{List};
-    ghost use Rattle.sd_base.specs.declared.record.NewChunk.{NewChunk};
 
-    ghost Value = { List NewChunk };
+    ghost Value = { List T };
 
-    ghost view = { λ list. list.chunks.items };
+    ghost view = { λ list. list.items.items };
 }
 
-impl From<Vec<NewChunk>> for NewChunks {
-    ghost from_gives = { λ chunks list. list ≡ chunks.items };
+impl<T> From<Vec<T>> for Items<T> {
+    ghost from_gives = { λ items list. list ≡ items.items };
 
-    fn from(chunks: Vec<NewChunk>) -> Self {
-        NewChunks { chunks }
+    fn from(items: Vec<T>) -> Self {
+        Items { items }
     }
 }
 
-impl NewChunks {
-    /// The chunks, in order.
-    pub fn as_slice(&self) -> &[NewChunk]
+impl<T> Items<T> {
+    /// The items, in order.
+    pub fn as_slice(&self) -> &[T]
         ensures { result.now ≡ self.now }
     {
-        &self.chunks
+        &self.items
     }
 
-    /// The chunks again as a `Vec`.
-    pub fn into_vec(self) -> Vec<NewChunk>
+    /// The items again as a `Vec`.
+    pub fn into_vec(self) -> Vec<T>
         ensures { result.items ≡ self }
     {
-        self.chunks
+        self.items
     }
 }
 
-/// The chunks of a session by their numbers in the book, in the order of its bytes: contracts see a list. It is made
-/// from a `Vec` and gives it back without taking memory.
-#[derive(Debug, Drop)]
-pub struct Recipe {
-    entries: Vec<u32>,
-}
+/// New chunks, in order of first occurrence.
+pub type NewChunks = Items<NewChunk>;
 
-impl Model for Recipe {
-    ghost use Rattle.std.specs.Prelude.{ℕ, List};
-
-    ghost Value = { List ℕ };
-
-    ghost view = { λ recipe. recipe.entries.items };
-}
-
-impl From<Vec<u32>> for Recipe {
-    ghost from_gives = { λ entries recipe. recipe ≡ entries.items };
-
-    fn from(entries: Vec<u32>) -> Self {
-        Recipe { entries }
-    }
-}
-
-impl Recipe {
-    /// The entries, in order.
-    pub fn as_slice(&self) -> &[u32]
-        ensures { result.now ≡ self.now }
-    {
-        &self.entries
-    }
-
-    /// The entries again as a `Vec`.
-    pub fn into_vec(self) -> Vec<u32>
-        ensures { result.items ≡ self }
-    {
-        self.entries
-    }
-}
+/// The chunks of a session by their numbers in the book, in the order of its bytes.
+pub type Recipe = Items<u32>;
 
 /// What the book keeps of an ingest. Defined by this project.
 #[derive(Debug, Drop)]
