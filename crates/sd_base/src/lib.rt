@@ -30,5 +30,8 @@ pub use name::{BadName, Name};
 pub use outcome::Outcome;
 pub use params::{BadParams, Params};
 pub use raw_params::RawParams;
-pub use record::{IngestRecord, Items, NewChunk, NewChunks, Recipe, Record, Session};
+pub use record::{
+    AROUND_BODY, DIGEST_LEN, DROP_KIND, INGEST_KIND, IngestRecord, Items, NUMBER_LEN, NewChunk,
+    NewChunks, Recipe, Record, Session,
+};
 pub use words::{BadKind, BadWords, Command, Quiet};

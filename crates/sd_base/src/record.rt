@@ -1,10 +1,25 @@
-//! The records of a store's book: what they hold.
+//! The records of a store's book: what they hold. All rules here are this project's own.
 ghost use Rattle.std.specs.Prelude.{◌≡◌};
 
 use crate::name::Name;
 use std::marker::Model;
 
-/// A chunk that no earlier session of the book has. Defined by this project.
+/// The first byte of an ingest.
+pub const INGEST_KIND: u8 = b'I';
+
+/// The first byte of a drop.
+pub const DROP_KIND: u8 = b'D';
+
+/// Bytes of a number in a record: a `u32`, big-endian.
+pub const NUMBER_LEN: usize = 4;
+
+/// Bytes of the digest of a record and of the name of a chunk: SHA-256 has 256 bits (FIPS 180-4).
+pub const DIGEST_LEN: usize = 32;
+
+/// Bytes of a record beside its body: the kind, the length of the body, and the digest.
+pub const AROUND_BODY: u32 = 1 + (NUMBER_LEN + DIGEST_LEN) as u32;
+
+/// A chunk that no earlier session of the book has.
 #[derive(Clone, Copy, Debug, PartialEq, Eq)]
 pub struct NewChunk {
     /// Its number of bytes.
@@ -13,7 +28,7 @@ pub struct NewChunk {
     pub name: [u8; 32],
 }
 
-/// A list in a record: contracts see its items. It is made from a `Vec` and gives it back without taking memory.
+/// A list in a record: contracts see its items. It is made from a `Vec`, and returns it again, without taking memory.
 #[derive(Debug, Drop)]
 pub struct Items<T> {
     items: Vec<T>,
@@ -57,7 +72,7 @@ pub type NewChunks = Items<NewChunk>;
 /// The chunks of a session by their numbers in the book, in the order of its bytes.
 pub type Recipe = Items<u32>;
 
-/// What the book keeps of an ingest. Defined by this project.
+/// What the book keeps of an ingest.
 #[derive(Debug, Drop)]
 pub struct IngestRecord {
     /// The name of the session.
@@ -70,7 +85,7 @@ pub struct IngestRecord {
     pub recipe: Recipe,
 }
 
-/// A record of a store's book. Defined by this project.
+/// A record of a store's book.
 #[derive(Debug, Drop)]
 pub enum Record {
     /// A session was taken in.
@@ -79,7 +94,7 @@ pub enum Record {
     Drop(u32),
 }
 
-/// A session of a store's book. Defined by this project.
+/// A session of a store's book.
 #[derive(Debug, Drop)]
 pub struct Session {
     /// What its ingest holds.
