@@ -38,5 +38,8 @@ pub use out_of_memory::OutOfMemory;
 pub use outcome::Outcome;
 pub use params::{BadParams, Params};
 pub use raw_params::RawParams;
-pub use record::{IngestRecord, NewChunk, NewChunks, Recipe, Record, Session};
+pub use record::{
+    AROUND_BODY, DIGEST_LEN, DROP_KIND, INGEST_KIND, IngestRecord, Items, NUMBER_LEN, NewChunk,
+    NewChunks, Recipe, Record, Session,
+};
 pub use words::{BadKind, BadWords, Command, Quiet};

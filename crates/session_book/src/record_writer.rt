@@ -1,15 +1,18 @@
 //! Records as bytes.
 ghost use Rattle.std.specs.Prelude.{◌≡◌, ◌++◌, ◌+◌, ◌*◌, ◌<◌, ◌≤◌, ◌^◌, length, IfOk, OnOk};
 ghost use Rattle.std.specs.List.{All, flat_map};
-ghost use Rattle.sd_base.specs.Records.{number, new_chunk, ingest_body, digested, kind_of, body_of, spelling_of, IsWithinLimits, IsIngestWithinLimits, IsIngest, IsRecord};
+ghost use Rattle.sd_base.specs.Records.{u32_bytes, new_chunk, ingest_body, digested, kind_of, body_of, spelling_of, IsWithinLimits, IsIngestWithinLimits, IsIngest, IsRecord};
 
-use crate::lengths::{AROUND_BODY, DROP_LEN, INGEST_NUMBERS, NEW_CHUNK_LEN, NUMBER_LEN};
-use sd_base::{IngestRecord, MAX_CHUNKS, NewChunk, OutOfMemory, Record};
+use crate::lengths::{DROP_LEN, INGEST_NUMBERS, NEW_CHUNK_LEN, SESSION_ROOM};
+use sd_base::{
+    AROUND_BODY, DIGEST_LEN, DROP_KIND, INGEST_KIND, IngestRecord, MAX_CHUNKS, NUMBER_LEN,
+    NewChunk, OutOfMemory, Record,
+};
 use sha2::{Digest, Sha256};
 use std::alloc::{AllocError, Global};
 
-/// The one spelling of a record whose lists are in the limits: such a record is of the grammar, so `next_record` reads
-/// it again. It is refused for want of memory alone.
+/// The one spelling of a record whose lists are within the limits. Such a record is of the grammar, so `next_record`
+/// reads it again. It fails only if memory runs out.
 #[tactic(auto, unfolding(sd_base::specs::Records::spelling_of))]
 pub fn encode_record(alloc: Global, entry: &Record) -> Result<Vec<u8>, OutOfMemory>
     requires { IsWithinLimits entry.now }
@@ -17,52 +20,52 @@ pub fn encode_record(alloc: Global, entry: &Record) -> Result<Vec<u8>, OutOfMemo
     ensures lawful { IsRecord entry.now }
 {
     let mut out = Vec::new(alloc);
-    put_digested(&mut out, entry)?;
+    append_digested(&mut out, entry)?;
     let digest = Sha256::digest(out.as_slice());
     out.extend_from_slice(&digest)?;
     Ok(out)
 }
 
-// Writes a record but for its digest.
-fn put_digested(out: &mut Vec<u8>, entry: &Record) -> Result<(), AllocError>
+// Appends a record except for its digest.
+fn append_digested(out: &mut Vec<u8>, entry: &Record) -> Result<(), AllocError>
     requires { IsWithinLimits entry.now }
     ensures written { OnOk result (out.new.items ≡ out.old.items ++ digested (kind_of entry.now) (body_of entry.now)) }
     ensures lawful { IsRecord entry.now }
 {
     match entry {
-        Record::Ingest(ingest) => put_ingest(out, ingest),
-        Record::Drop(session) => put_drop(out, *session),
+        Record::Ingest(ingest) => append_ingest(out, ingest),
+        Record::Drop(session) => append_drop(out, *session),
     }
 }
 
-// Writes a drop but for its digest.
-fn put_drop(out: &mut Vec<u8>, session: u32) -> Result<(), AllocError>
-    ensures written { OnOk result (out.new.items ≡ out.old.items ++ digested 68 (number session)) }
+// Appends a drop except for its digest.
+fn append_drop(out: &mut Vec<u8>, session: u32) -> Result<(), AllocError>
+    ensures written { OnOk result (out.new.items ≡ out.old.items ++ digested DROP_KIND (u32_bytes session)) }
     ensures fits { session < 2 ^ 32 }
 {
-    out.push(b'D')?;
-    out.extend_from_slice(&4u32.to_be_bytes())?;
+    out.push(DROP_KIND)?;
+    out.extend_from_slice(&(NUMBER_LEN as u32).to_be_bytes())?;
     out.extend_from_slice(&session.to_be_bytes())
 }
 
-// Writes an ingest but for its digest.
-fn put_ingest(out: &mut Vec<u8>, entry: &IngestRecord) -> Result<(), AllocError>
+// Appends an ingest except for its digest.
+fn append_ingest(out: &mut Vec<u8>, entry: &IngestRecord) -> Result<(), AllocError>
     requires { IsIngestWithinLimits entry.now }
-    ensures written { OnOk result (out.new.items ≡ out.old.items ++ digested 73 (ingest_body entry.now)) }
+    ensures written { OnOk result (out.new.items ≡ out.old.items ++ digested INGEST_KIND (ingest_body entry.now)) }
     ensures lawful { IsIngest entry.now }
 {
     let size = body_len(entry);
     out.reserve(AROUND_BODY as usize + size as usize)?;
-    out.push(b'I')?;
+    out.push(INGEST_KIND)?;
     out.extend_from_slice(&size.to_be_bytes())?;
-    put_body(out, entry)
+    append_body(out, entry)
 }
 
 // The number of bytes of an ingest's spelling, with room for that of a drop.
 pub fn ingest_len(entry: &IngestRecord) -> u32
     requires { IsIngestWithinLimits entry.now }
     ensures spelled { result ≡ length (spelling_of (Record.Ingest entry.now)) }
-    ensures small { result + DROP_LEN ≤ 2 ^ 30 }
+    ensures small { result + DROP_LEN ≤ SESSION_ROOM }
     ensures lawful { IsIngest entry.now }
 {
     AROUND_BODY + body_len(entry)
@@ -87,7 +90,7 @@ fn chunks_len(chunks: &[NewChunk]) -> usize
     requires { length chunks.now ≤ MAX_CHUNKS }
     ensures spelled { result ≡ length (flat_map new_chunk chunks.now) }
     ensures each { result ≡ NEW_CHUNK_LEN * length chunks.now }
-    ensures names { All (λ chunk. length chunk.name ≡ 32) chunks.now }
+    ensures names { All (λ chunk. length chunk.name ≡ DIGEST_LEN) chunks.now }
 {
     let mut size = 0;
     for chunk in chunks {
@@ -104,15 +107,15 @@ fn numbers_fit(length: u32, entries: &[u32])
 
 // The number of bytes of a name.
 fn name_len(name: &[u8; 32]) -> usize
-    ensures is { result ≡ length name.now }
-    ensures always { result ≡ 32 }
+    ensures equals { result ≡ length name.now }
+    ensures always { result ≡ DIGEST_LEN }
 {
     name.as_slice().len()
 }
 
-// Writes the body of an ingest.
+// Appends the body of an ingest.
 #[tactic(auto, unfolding(sd_base::specs::Records::ingest_body))]
-fn put_body(out: &mut Vec<u8>, entry: &IngestRecord) -> Result<(), AllocError>
+fn append_body(out: &mut Vec<u8>, entry: &IngestRecord) -> Result<(), AllocError>
     requires { IsIngestWithinLimits entry.now }
     ensures { OnOk result (out.new.items ≡ out.old.items ++ ingest_body entry.now) }
 {
@@ -120,14 +123,14 @@ fn put_body(out: &mut Vec<u8>, entry: &IngestRecord) -> Result<(), AllocError>
     out.push(name.len() as u8)?;
     out.extend_from_slice(name)?;
     out.extend_from_slice(&entry.length.to_be_bytes())?;
-    put_chunks(out, entry.fresh.as_slice())?;
-    put_entries(out, entry.recipe.as_slice())
+    append_chunks(out, entry.fresh.as_slice())?;
+    append_entries(out, entry.recipe.as_slice())
 }
 
-// Writes new chunks behind their number.
-fn put_chunks(out: &mut Vec<u8>, chunks: &[NewChunk]) -> Result<(), AllocError>
+// Appends the number of new chunks, and the chunks.
+fn append_chunks(out: &mut Vec<u8>, chunks: &[NewChunk]) -> Result<(), AllocError>
     requires { length chunks.now < 2 ^ 32 }
-    ensures { OnOk result (out.new.items ≡ out.old.items ++ (number (length chunks.now) ++ flat_map new_chunk chunks.now)) }
+    ensures { OnOk result (out.new.items ≡ out.old.items ++ (u32_bytes (length chunks.now) ++ flat_map new_chunk chunks.now)) }
 {
     out.extend_from_slice(&(chunks.len() as u32).to_be_bytes())?;
     for chunk in chunks {
@@ -137,10 +140,10 @@ fn put_chunks(out: &mut Vec<u8>, chunks: &[NewChunk]) -> Result<(), AllocError>
     Ok(())
 }
 
-// Writes the entries of a recipe behind their number.
-fn put_entries(out: &mut Vec<u8>, entries: &[u32]) -> Result<(), AllocError>
+// Appends the number of entries of a recipe, and the entries.
+fn append_entries(out: &mut Vec<u8>, entries: &[u32]) -> Result<(), AllocError>
     requires { length entries.now < 2 ^ 32 }
-    ensures { OnOk result (out.new.items ≡ out.old.items ++ (number (length entries.now) ++ flat_map number entries.now)) }
+    ensures { OnOk result (out.new.items ≡ out.old.items ++ (u32_bytes (length entries.now) ++ flat_map u32_bytes entries.now)) }
 {
     out.extend_from_slice(&(entries.len() as u32).to_be_bytes())?;
     for entry in entries {

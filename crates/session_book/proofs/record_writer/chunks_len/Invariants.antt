@@ -1,7 +1,7 @@
 use Rattle.std.proofs.Common.{◌≡◌, ◌*◌, length, take}
 use Rattle.std.specs.List.{All, flat_map}
 use Rattle.sd_base.specs.Records.{new_chunk}
-use Rattle.session_book.proofs.writing.chunks_len.Given as goal
+use Rattle.session_book.proofs.record_writer.chunks_len.Given as goal
 
 abbrev pub invariant-loop-chunk : goal.invariant-loop-chunk
 invariant-loop-chunk l = record {

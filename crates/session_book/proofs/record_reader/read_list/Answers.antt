@@ -1,7 +1,7 @@
 use Rattle.std.proofs.lemmas.Result.{err_from_is_err_and}
 use Rattle.session_book.specs.Reading.{list_at}
 use Rattle.session_book.proofs.Loop.{goes_on, ends, is_done}
-use Rattle.session_book.proofs.reading.list.Goals as goal
+use Rattle.session_book.proofs.record_reader.read_list.Goals as goal
 
 pub returns-in_err-item : goal.returns-in_err-item
 returns-in_err-item g c =
