@@ -1,5 +1,5 @@
 -- The files of containers, where a shelf tells its files. Defined by this project.
-use Rattle.std.specs.Prelude.{◌≡◌, ℕ, ◌<◌, List, [], ◌++◌, length, slice_index_or, Option, IfSome}
+use Rattle.std.specs.Prelude.{◌≡◌, ℕ, ◌<◌, List, [], ◌++◌, length, take, slice_index_or, Option, option_map, IfSome}
 use Rattle.edge_traits.specs.declared.shelf.File.{File}
 use Rattle.edge_traits.specs.declared.shelf.File.TheVariants.{Container}
 use Rattle.edge_traits.specs.Shelf.{content}
@@ -18,6 +18,15 @@ HasOnly told all = IfSome told (λ bytes. bytes ≡ all)
 abbrev pub ContainersBegin : Option (File → List ℕ) → ℕ → List (List ℕ) → Type 0
 ContainersBegin files generation containers =
     (k : ℕ) → k < length containers → Begins (content files (Container generation k)) (slice_index_or containers k [])
+
+-- the file has its first `size` bytes as they were, and then these alone
+abbrev pub AppendedAt : File → ℕ → List ℕ → Option (File → List ℕ) → Option (File → List ℕ) → Type 0
+AppendedAt file size bytes before after = content after file ≡ option_map (λ had. take size had ++ bytes) (content before file)
+
+-- the file begins with its first `size` bytes as they were, whatever follows them
+abbrev pub KeepsFront : File → ℕ → Option (File → List ℕ) → Option (File → List ℕ) → Type 0
+KeepsFront file size before after =
+    (tail : List ℕ) × (content after file ≡ option_map (λ had. take size had ++ tail) (content before file))
 
 -- this chunk of n bytes lies at the spot, in containers with which those of the generation begin
 pub record IsStored (files : Option (File → List ℕ)) (generation : ℕ) (spot : Spot) (n : ℕ) (chunk : List ℕ) : Type 0 where

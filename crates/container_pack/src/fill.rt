@@ -27,13 +27,13 @@ impl Fill {
     /// With a chunk of this length more.
     pub(crate) fn with_chunk(self, length: u32) -> Self
         requires sound { IsSound self }
-        requires some { 1 ≤ length }
+        requires not_empty { 1 ≤ length }
         requires bounded { length ≤ MAX_CHUNK_LEN }
         requires containers { self.containers < 2 ^ 32 - 1 }
 
         ensures filled { result ≡ filled_by self length }
         ensures sound { IsSound result }
-        ensures some { 0 < result.containers }
+        ensures not_empty { 0 < result.containers }
         ensures behind { length ≤ result.used }
         ensures containers { result.containers ≤ self.containers + 1 }
     {
@@ -52,7 +52,7 @@ impl Fill {
 
     /// Where the last chunk lies, whose length this is.
     pub(crate) fn last_spot(self, length: u32) -> Spot
-        requires some { 0 < self.containers }
+        requires not_empty { 0 < self.containers }
         requires length { length ≤ self.used }
         ensures { result ≡ last_spot self length }
     {
