@@ -84,7 +84,7 @@ returns-clause-lies g c = λ chunks behind.
 pub returns-clause-opened : goal.returns-clause-opened
 returns-clause-opened g c =
     subst (λ (s : Spot). s.container ≡ c.args.self.now.fill.containers
-        → HasOnly (content (g.F.Shelf.files c.append.new.self) (Container c.args.self.now.generation s.container)) (header_of s.container ++ c.args.chunk.now))
+    → HasOnly (content (g.F.Shelf.files c.append.new.self) (Container c.args.self.now.generation s.container)) (header_of s.container ++ c.args.chunk.now))
     c.next_spot-spot.ensures
     (λ same. HasOnly-append (content (g.F.Shelf.files c.make_ready.new.shelf) (Container c.args.self.now.generation c.next_spot-spot.result.container)) _ _ c.args.chunk.now
     (c.in_ok-make_ready.ensures.opened same) c.in_ok-append.ensures.appended)
@@ -92,7 +92,7 @@ returns-clause-opened g c =
 pub returns-clause-at_spot : goal.returns-clause-at_spot
 returns-clause-at_spot g c =
     subst (λ (s : Spot). (s.container ≢ c.args.self.now.fill.containers)
-        → AppendedAt (Container c.args.self.now.generation s.container) s.offset c.args.chunk.now (g.F.Shelf.files c.args.shelf.now) (g.F.Shelf.files c.append.new.self))
+    → AppendedAt (Container c.args.self.now.generation s.container) s.offset c.args.chunk.now (g.F.Shelf.files c.args.shelf.now) (g.F.Shelf.files c.append.new.self))
     c.next_spot-spot.ensures
     (λ apart. AppendedAt-cut _ _ (g.F.Shelf.files c.args.shelf.now) (g.F.Shelf.files c.append.new.self) (g.F.Shelf.files c.make_ready.new.shelf) c.args.chunk.now (c.in_ok-make_ready.ensures.cut apart) c.in_ok-append.ensures.appended)
 
