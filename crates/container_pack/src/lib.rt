@@ -4,17 +4,19 @@
 //! the shelf of `edge_traits`.
 #![tactic(auto)]
 
+mod chunk_reader;
 mod fill;
 mod laws;
 mod packer;
 mod placing;
-mod reading;
+
 mod spot;
 
+pub use chunk_reader::read_chunk;
 pub use laws::{chunks_lie_at_their_spots, containers_only_grow, packing_is_by_groups};
 pub use packer::Packer;
 pub use placing::places;
-pub use reading::read_chunk;
+
 pub use spot::Spot;
 
 #[cfg(test)]

@@ -110,6 +110,10 @@ impl Packer {
 
         ensures failed { IsErrOf result EdgeFault.Failed → Rose (F.faults shelf.old) (F.faults shelf.new) }
         ensures never_falls { F.faults shelf.old ≤ F.faults shelf.new }
+
+        ensures faultless_serves { F.faultless shelf.old → IsErrOf result EdgeFault.Failed → ⊥ }
+        ensures faultless_counts_none { F.faultless shelf.old → F.faults shelf.new ≡ F.faults shelf.old }
+        ensures stays_faultless { F.faultless shelf.old → F.faultless shelf.new }
     {
         let length = chunk.len() as u32;
         let spot = self.next_spot(length);
@@ -143,6 +147,10 @@ impl Packer {
 
         ensures failed { IsErrOf result EdgeFault.Failed → Rose (F.faults shelf.old) (F.faults shelf.new) }
         ensures never_falls { F.faults shelf.old ≤ F.faults shelf.new }
+
+        ensures faultless_serves { F.faultless shelf.old → IsErrOf result EdgeFault.Failed → ⊥ }
+        ensures faultless_counts_none { F.faultless shelf.old → F.faults shelf.new ≡ F.faults shelf.old }
+        ensures stays_faultless { F.faultless shelf.old → F.faultless shelf.new }
     {
         for number in self.first_unflushed..self.fill.containers {
             shelf.flush(File::Container(self.generation, number))?;
@@ -178,6 +186,10 @@ impl Packer {
 
         ensures failed { IsErrOf result EdgeFault.Failed → Rose (F.faults shelf.old) (F.faults shelf.new) }
         ensures never_falls { F.faults shelf.old ≤ F.faults shelf.new }
+
+        ensures faultless_serves { F.faultless shelf.old → IsErrOf result EdgeFault.Failed → ⊥ }
+        ensures faultless_counts_none { F.faultless shelf.old → F.faults shelf.new ≡ F.faults shelf.old }
+        ensures stays_faultless { F.faultless shelf.old → F.faultless shelf.new }
     {
         let file = File::Container(self.generation, spot.container);
         if spot.container == self.fill.containers {
@@ -197,6 +209,10 @@ fn open_container<F: Shelf>(shelf: &mut F, file: File, number: u32) -> Result<()
 
     ensures failed { IsErrOf result EdgeFault.Failed → Rose (F.faults shelf.old) (F.faults shelf.new) }
     ensures never_falls { F.faults shelf.old ≤ F.faults shelf.new }
+
+    ensures faultless_serves { F.faultless shelf.old → IsErrOf result EdgeFault.Failed → ⊥ }
+    ensures faultless_counts_none { F.faultless shelf.old → F.faults shelf.new ≡ F.faults shelf.old }
+    ensures stays_faultless { F.faultless shelf.old → F.faultless shelf.new }
 {
     shelf.cut(file, 0)?;
     shelf.append(file, &header(number))

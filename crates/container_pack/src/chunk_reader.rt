@@ -30,6 +30,10 @@ pub fn read_chunk<F: Shelf>(
 
     ensures failed { IsErrOf result EdgeFault.Failed → Rose (F.faults shelf.old) (F.faults shelf.new) }
     ensures never_falls { F.faults shelf.old ≤ F.faults shelf.new }
+
+    ensures faultless_serves { F.faultless shelf.old → IsErrOf result EdgeFault.Failed → ⊥ }
+    ensures faultless_counts_none { F.faultless shelf.old → F.faults shelf.new ≡ F.faults shelf.old }
+    ensures stays_faultless { F.faultless shelf.old → F.faultless shelf.new }
 {
     let mut chunk = vec![in alloc; 0; length as usize]?;
     let file = File::Container(generation, spot.container);
