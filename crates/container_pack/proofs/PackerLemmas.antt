@@ -25,7 +25,7 @@ Files = Option (File → List ℕ)
 pub Container-apart : (generation k j : ℕ) → k ≢ j → Container generation k ≢ Container generation j
 Container-apart generation k j apart same = apart (cc same)
 
--- the containers stand as they stood, where only one file has changed and begins as it did
+-- only one file has changed, and it begins as it did
 pub ContainersBegin-refused : (before after : Files) (generation at : ℕ) (containers : Chunks) → ContainersBegin before generation containers
     → (at < length containers → Begins (content after (Container generation at)) (get_or containers at []))
     → ((f : File) → f ≢ Container generation at → content after f ≡ content before f)
@@ -37,7 +37,7 @@ ContainersBegin-refused before after generation at containers begin here others 
       (others (Container generation k) (Container-apart generation k at apart)) (begin k inside)
 ]
 
--- the containers begin with one chunk more, where the file of its spot ends with it
+-- the containers begin with one more chunk, if the file of its spot ends with it
 pub ContainersBegin-pushed : (before after : Files) (generation : ℕ) (old new : Chunks) (spot : Spot) (chunk : List ℕ) → ContainersBegin before generation old
     → Pushed old new spot chunk
     → HasOnly (content after (Container generation spot.container)) (get_or new spot.container [])

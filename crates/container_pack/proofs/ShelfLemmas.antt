@@ -1,4 +1,4 @@
--- What a call of a shelf does to a file of which the front is known.
+-- What a call of a shelf does to a file whose front is known.
 use Rattle.std.proofs.Common.{◌≡◌, ⊎_elim, ℕ, List, [], ◌++◌, length, take, drop, sym, ap, ◌∙◌, refl, subst, append_assoc}
 use Rattle.std.specs.Prelude.{Option, Some, None, option_map, IfSome, Result, Ok, Err, OnErr, IsErrOf}
 use Rattle.edge_traits.specs.declared.shelf.File.{File}
@@ -90,7 +90,7 @@ module _ (file : File) (size : ℕ) (before after : Option (File → List ℕ)) 
       let p = prefix refl in KeepsFront-at (take p.0 piece) (AppendedAt-cut ready (take p.0 piece) cut p.2)
   KeepsFront-refused_append ready piece cut OutOfMemory prefix same = KeepsFront-cut (same refl file ∙ cut)
 
--- a chunk that stands in a file behind the bytes before it is what a read of its length gives there
+-- a read of the length of a chunk at its offset returns the chunk
 read_told : (told : Told) (n : ℕ) (front chunk after given : List ℕ) → length chunk ≡ n → Begins told (front ++ chunk ++ after)
     → IsReadAt told (length front) n given → IfSome told (λ _. given ≡ chunk)
 read_told None n front chunk after given size begins read = tt

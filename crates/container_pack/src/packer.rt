@@ -12,7 +12,7 @@ ghost use Rattle.container_pack.specs.Containers.{HasOnly, ContainersBegin, Appe
 use crate::Spot;
 use crate::fill::Fill;
 use edge_traits::{EdgeFault, File, Shelf};
-use sd_base::{MAX_CHUNK_LEN, MAX_CHUNKS};
+use sd_base::{CONTAINER_HEADER, MAX_CHUNK_LEN, MAX_CHUNKS};
 
 /// Appends chunks to the containers of a generation, after the chunks that are there already. It knows those by their
 /// lengths alone.
@@ -218,8 +218,8 @@ fn open_container<F: Shelf>(shelf: &mut F, file: File, number: u32) -> Result<()
     shelf.append(file, &header(number))
 }
 
-/// The first bytes of a container: its mark and its number.
-fn header(number: u32) -> [u8; 8]
+/// The first bytes of a container: its mark and its number, the most significant byte first.
+fn header(number: u32) -> [u8; CONTAINER_HEADER as usize]
     ensures { result ≡ header_of number }
 {
     let [a, b, c, d] = number.to_be_bytes();
