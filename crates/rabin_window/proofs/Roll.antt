@@ -1,5 +1,5 @@
--- How a remainder changes when a window moves by a byte: what the oldest byte adds is taken away, and the new byte is
--- appended.
+-- How a remainder changes when a window moves by a byte: what the oldest byte adds is taken away,
+-- and the new byte is appended.
 use Rattle.std.proofs.Common.{◌≡◌, ℕ, ◌+◌, ◌-◌, ◌*◌, ◌/◌, ◌%◌, ◌^◌, ◌<◌, List, [], ◌∷◌, ◌++◌, length, get_or, drop, replicate, arith, refl, sym, ap, ap₂, ◌∙◌, subst}
 use Rattle.std.specs.Prelude.{bit_and, bit_or, bit_xor}
 use Rattle.std.specs.Int.Bits.{xor_comm, xor_zero_r, xor_shifted}
@@ -41,7 +41,8 @@ pub bytes_below : (p r : ℕ) (xs : List ℕ) → 0 < p → p < 2 ^ 64 → r < 2
 bytes_below p r [] pos fits below = below
 bytes_below p r (x ∷ xs) pos fits below = bytes_below p (append_byte p r x) xs pos fits (append_byte_below p r x pos fits below)
 
--- what stands before bytes adds to their remainder what it would be behind as many zero bytes
+-- what comes before bytes adds to their remainder: its own remainder with as many zero bytes after
+-- it
 pub bytes_xor : (p r s : ℕ) (xs : List ℕ)
     → fold (append_byte p) (bit_xor r s) xs ≡ bit_xor (fold (append_byte p) r (replicate (length xs) 0)) (fold (append_byte p) s xs)
 bytes_xor p r s [] = refl
@@ -56,15 +57,15 @@ unfolding leaving_entry
 without_oldest p leaving [] size oldest = absurd (omega arith)
 without_oldest p leaving (x ∷ rest) size oldest =
     let first = append_byte p 0 x in
-    let behind = fold (append_byte p) first (replicate (WINDOW - 1) 0) in
+    let with_zeros = fold (append_byte p) first (replicate (WINDOW - 1) 0) in
     let left = fold (append_byte p) 0 rest in
     let many : length rest ≡ WINDOW - 1 = omega arith in
-    let parts : fold (append_byte p) first rest ≡ bit_xor behind left =
+    let parts : fold (append_byte p) first rest ≡ bit_xor with_zeros left =
     ap (λ t. fold (append_byte p) t rest) (sym (xor_zero_r first)) ∙ bytes_xor p first 0 rest
     ∙ ap (λ n. bit_xor (fold (append_byte p) first (replicate n 0)) left) many in
-    let same : behind ≡ fold (append_byte p) (append_byte p 0 leaving) (replicate (WINDOW - 1) 0) =
+    let same : with_zeros ≡ fold (append_byte p) (append_byte p 0 leaving) (replicate (WINDOW - 1) 0) =
     ap (λ b. fold (append_byte p) (append_byte p 0 b) (replicate (WINDOW - 1) 0)) oldest in
-    ap₂ bit_xor (parts ∙ xor_comm behind left) (sym same) ∙ xor_twice left behind
+    ap₂ bit_xor (parts ∙ xor_comm with_zeros left) (sym same) ∙ xor_twice left with_zeros
 
 pub kept_is : (p leaving : ℕ) (window : List ℕ) → length window ≡ WINDOW → get_or window 0 0 ≡ leaving
     → bit_xor (fingerprint p window) (leaving_entry p leaving) ≡ fingerprint p (drop 1 window)
@@ -122,7 +123,7 @@ module _ (p k b : ℕ) (is : k + 8 ≡ degree p) (pos : 0 < p) (fits : p < 2 ^ 6
 -- ---- the step, as the code takes it
 
 module _ (p k mask r b : ℕ) (is : k + 8 ≡ degree p) (within : degree p < 64) (mask_is : mask ≡ 2 ^ k - 1) (few : b < 256) where
-  -- the low bits with the byte behind them
+  -- the low bits with the byte after them
   low_is : bit_or (bit_and r mask * 256 % 2 ^ 64) b ≡ r % 2 ^ k * 256 + b
   low_is =
       let below : r % 2 ^ k < 2 ^ k = mod_below r (2 ^ k) (pow_pos k) in
@@ -133,52 +134,65 @@ module _ (p k mask r b : ℕ) (is : k + 8 ≡ degree p) (within : degree p < 64)
   pub step_is : bit_xor (bit_or (bit_and r mask * 256 % 2 ^ 64) b) (appending_entry p (r / 2 ^ k)) ≡ append_byte p r b
   step_is = ap (λ x. bit_xor x (appending_entry p (r / 2 ^ k))) low_is ∙ appended_is p k r b is few
 
--- ---- the step by tables, as the code takes it; `leaving'` and `entering'` are the bytes as it has them
+-- ---- the step by tables, as the code takes it; `leaving'` and `entering'` are the bytes as the code
+-- has them
 
--- what is left without the oldest byte
+-- the remainder without what the oldest byte adds
 abbrev pub kept : List ℕ → ℕ → ℕ → ℕ
 kept leaving_entries value leaving = bit_xor value (get_or leaving_entries leaving 0)
 
--- what comes of that with a byte appended
+-- that, with a byte appended
 abbrev pub appended : List ℕ → ℕ → ℕ → ℕ → ℕ → ℕ
 appended appending_entries k mask r entering = bit_xor (bit_or (bit_and r mask * 256 % 2 ^ 64) entering) (get_or appending_entries (r / 2 ^ k) 0)
 
-module _ {p k mask : ℕ} {leaving_entries appending_entries : List ℕ} (tables : AreTables p k mask leaving_entries appending_entries) (valid : IsPolynomial p) where
-  leaves_is : (leaving leaving' : ℕ) → leaving' ≡ leaving → leaving < 256 → get_or leaving_entries leaving' 0 ≡ leaving_entry p leaving
+module _ {p k mask : ℕ} {leaving_entries appending_entries : List ℕ}
+    (tables : AreTables p k mask leaving_entries appending_entries) (valid : IsPolynomial p) where
+  leaves_is : (leaving leaving' : ℕ) → leaving' ≡ leaving → leaving < 256
+      → get_or leaving_entries leaving' 0 ≡ leaving_entry p leaving
   leaves_is leaving leaving' leaving_is few = ap (λ b. get_or leaving_entries b 0) leaving_is ∙ tables.leaves leaving few
 
-  kept_below : (value leaving leaving' : ℕ) → leaving' ≡ leaving → leaving < 256 → value < 2 ^ degree p → kept leaving_entries value leaving' < 2 ^ degree p
+  kept_below : (value leaving leaving' : ℕ) → leaving' ≡ leaving → leaving < 256 → value < 2 ^ degree p
+      → kept leaving_entries value leaving' < 2 ^ degree p
   kept_below value leaving leaving' leaving_is few below =
       xor_lt (degree p) value (get_or leaving_entries leaving' 0) below
       (subst (λ x. x < 2 ^ degree p) (sym (leaves_is leaving leaving' leaving_is few)) (leaving_entry_below p leaving (omega arith) valid.1))
 
-  -- the highest bits are the number of an entry
-  pub high_below : (value leaving leaving' : ℕ) → leaving' ≡ leaving → leaving < 256 → value < 2 ^ degree p → kept leaving_entries value leaving' / 2 ^ k < 256
+  -- the highest bits are the index of an entry
+  pub high_below : (value leaving leaving' : ℕ) → leaving' ≡ leaving → leaving < 256 → value < 2 ^ degree p
+      → kept leaving_entries value leaving' / 2 ^ k < 256
   high_below value leaving leaving' leaving_is few below =
       let turned : degree p ≡ 8 + k = omega (arith, tables.highest_byte) in
       shr_below (kept leaving_entries value leaving') 8 k
       (subst (λ d. kept leaving_entries value leaving' < 2 ^ d) turned (kept_below value leaving leaving' leaving_is few below))
 
-  appended_by_table : (r entering entering' : ℕ) → r / 2 ^ k < 256 → entering' ≡ entering → entering < 256 → appended appending_entries k mask r entering' ≡ append_byte p r entering
+  appended_by_table : (r entering entering' : ℕ) → r / 2 ^ k < 256 → entering' ≡ entering → entering < 256
+      → appended appending_entries k mask r entering' ≡ append_byte p r entering
   appended_by_table r entering entering' high entering_is few =
       let place = degree_place p (omega arith) valid.1 in
       ap (bit_xor (bit_or (bit_and r mask * 256 % 2 ^ 64) entering')) (tables.appends (r / 2 ^ k) high)
       ∙ ap (λ b. bit_xor (bit_or (bit_and r mask * 256 % 2 ^ 64) b) (appending_entry p (r / 2 ^ k))) entering_is
       ∙ step_is p k mask r entering tables.highest_byte place.2 tables.masked few
 
-  module _ (value leaving leaving' entering entering' : ℕ) (leaving_is : leaving' ≡ leaving) (entering_is : entering' ≡ entering) (few_leaving : leaving < 256) (few_entering : entering < 256)
+  module _ (value leaving leaving' entering entering' : ℕ) (leaving_is : leaving' ≡ leaving) (entering_is : entering' ≡ entering)
+      (few_leaving : leaving < 256) (few_entering : entering < 256)
       (below : value < 2 ^ degree p) where
-    moved_is : appended appending_entries k mask (kept leaving_entries value leaving') entering' ≡ append_byte p (kept leaving_entries value leaving') entering
-    moved_is = appended_by_table (kept leaving_entries value leaving') entering entering' (high_below value leaving leaving' leaving_is few_leaving below) entering_is few_entering
+    moved_is : appended appending_entries k mask (kept leaving_entries value leaving') entering'
+        ≡ append_byte p (kept leaving_entries value leaving') entering
+    moved_is =
+        appended_by_table (kept leaving_entries value leaving') entering entering'
+        (high_below value leaving leaving' leaving_is few_leaving below) entering_is few_entering
 
     pub rolled : (window : List ℕ) → length window ≡ WINDOW → get_or window 0 0 ≡ leaving → value ≡ fingerprint p window
-        → appended appending_entries k mask (kept leaving_entries value leaving') entering' ≡ fingerprint p (drop 1 window ++ entering ∷ [])
+        → appended appending_entries k mask (kept leaving_entries value leaving') entering'
+        ≡ fingerprint p (drop 1 window ++ entering ∷ [])
     rolled window size oldest value_is =
         moved_is
-        ∙ ap (λ t. append_byte p t entering) (ap₂ bit_xor value_is (leaves_is leaving leaving' leaving_is few_leaving) ∙ kept_is p leaving window size oldest)
+        ∙ ap (λ t. append_byte p t entering) (ap₂ bit_xor value_is (leaves_is leaving leaving' leaving_is few_leaving)
+        ∙ kept_is p leaving window size oldest)
         ∙ sym (fingerprint_push p (drop 1 window) entering)
 
     pub rolled_below : appended appending_entries k mask (kept leaving_entries value leaving') entering' < 2 ^ degree p
     rolled_below =
         subst (λ x. x < 2 ^ degree p) (sym moved_is)
-        (append_byte_below p (kept leaving_entries value leaving') entering (omega arith) valid.1 (kept_below value leaving leaving' leaving_is few_leaving below))
+        (append_byte_below p (kept leaving_entries value leaving') entering (omega arith) valid.1
+        (kept_below value leaving leaving' leaving_is few_leaving below))
