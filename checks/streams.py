@@ -1,0 +1,299 @@
+"""How `backup STORE plan` reads and writes streams of every kind, and ends if one of them fails."""
+
+import fcntl
+import os
+import tempfile
+from contextlib import contextmanager, suppress
+from threading import Thread
+from time import sleep
+
+import reference
+from harness import (
+    STORE,
+    Mismatch,
+    closing,
+    each_row,
+    expect,
+    expect_refusal,
+    expect_same,
+    file_of,
+    position_of,
+    run,
+    test,
+)
+from plan import LONGEST_INPUT, keys_of
+from reference import DEFAULTS, KNOWN_CUTS, SPARSE_ZERO
+
+PLAN = [STORE, "plan"]
+ABC = reference.plan(DEFAULTS, b"abc")
+READING, WRITING = "reading failed", "writing failed"
+
+# Zeros in chunks of 64 bytes, each of which has a line.
+MANY_LINES = [*PLAN, *keys_of(SPARSE_ZERO)]
+
+
+def lines_of_zeros(length):
+    """The text of a plan with many lines, one for every 64 bytes."""
+    whole, rest = divmod(length, 64)
+    return reference.lines_of(bytes(length), [64] * whole + [rest] * (rest > 0))
+
+
+@contextmanager
+def pipe():
+    """A pipe, open at both ends."""
+    reader, writer = os.pipe2(os.O_CLOEXEC)
+    with open(reader, "rb", buffering=0) as source, open(writer, "wb", buffering=0) as sink:
+        yield source, sink
+
+
+def set_non_blocking(file):
+    flags = fcntl.fcntl(file, fcntl.F_GETFL)
+    fcntl.fcntl(file, fcntl.F_SETFL, flags | os.O_NONBLOCK)
+
+
+def in_background(function):
+    thread = Thread(target=function, daemon=True)
+    thread.start()
+    return thread
+
+
+def trickle(text):
+    """Opens a pipe from which each read takes one byte."""
+    reader, writer = os.pipe2(os.O_DIRECT | os.O_CLOEXEC)
+
+    def write():
+        with suppress(BrokenPipeError), open(writer, "wb", buffering=0) as sink:
+            for byte in text:
+                sink.write(bytes([byte]))
+
+    in_background(write)
+    return open(reader, "rb", buffering=0)
+
+
+@test
+def input_comes_byte_by_byte():
+    known = KNOWN_CUTS["minimum_counts_from_the_last_cut"]
+    with trickle(known.text) as source:
+        came = run(PLAN, source)
+    expect(came, output=reference.lines_of(known.text, known.lengths))
+
+
+@test
+def input_comes_after_pauses():
+    def write(sink):
+        with sink:
+            for byte in b"abc":
+                sink.write(bytes([byte]))
+                sleep(0.05)
+
+    with pipe() as (source, sink):
+        writing = in_background(lambda: write(sink))
+        came = run(PLAN, source)
+        writing.join()
+    expect(came, output=ABC)
+
+
+@test
+def input_is_a_file_that_was_read_before():
+    with file_of(b"0123456789abc") as source:
+        source.seek(10)
+        expect(run(PLAN, source), output=ABC)
+        expect_same("position of the file", 13, position_of(source))
+
+
+@test
+def input_is_a_file_that_was_read_to_its_end():
+    with file_of(b"abc") as source:
+        source.seek(0, os.SEEK_END)
+        expect(run(PLAN, source))
+
+
+@test
+def input_is_empty():
+    with open("/dev/null", "rb") as empty:
+        expect(run(PLAN, empty))
+
+
+@test
+def input_is_closed():
+    expect_refusal(run(PLAN, starter=closing("<&")), READING)
+
+
+@test
+def input_is_open_for_writing_only():
+    with open("/dev/null", "wb") as sink:
+        expect_refusal(run(PLAN, sink), READING)
+
+
+@test
+def input_is_a_folder():
+    folder = os.open(".", os.O_RDONLY)
+    try:
+        expect_refusal(run(PLAN, folder), READING)
+    finally:
+        os.close(folder)
+
+
+@test
+def input_has_some_bytes_and_would_block():
+    def expect_row(length):
+        with pipe() as (source, sink):
+            set_non_blocking(source)
+            sink.write(bytes(length))
+            expect_refusal(run(MANY_LINES, source), READING)
+
+    each_row([(0,), (3,), (50_000,)], expect_row)
+
+
+@test
+def input_that_is_too_long_is_read_to_the_first_byte_too_many():
+    def expect_row(length):
+        with tempfile.TemporaryFile() as zeros:
+            zeros.truncate(length)
+            expect_refusal(run(PLAN, zeros), "input too long")
+            expect_same("position of the file", LONGEST_INPUT + 1, position_of(zeros))
+
+    # The second length is 3 modulo 2^32.
+    each_row([(LONGEST_INPUT + 1,), (2**32 + 3,)], expect_row)
+
+
+@test
+def output_is_closed():
+    expect_refusal(run(PLAN, b"abc", starter=closing(">&")), WRITING)
+
+
+@test
+def output_is_open_for_reading_only():
+    with open("/dev/null", "rb") as source:
+        expect_refusal(run(PLAN, b"abc", source), WRITING)
+
+
+@test
+def output_is_full():
+    with open("/dev/full", "wb") as full:
+        expect_refusal(run(PLAN, b"abc", full), WRITING)
+
+
+@test
+def output_has_no_reader():
+    with pipe() as (source, sink):
+        source.close()
+        expect_refusal(run(PLAN, b"abc", sink), WRITING)
+
+
+def expect_part(wanted, written):
+    """Expects some of the text from its start on, and not the whole of it."""
+    if not written or written == wanted or not wanted.startswith(written):
+        raise Mismatch(f"wanted a part of the text from its start, came {written[:200]}")
+
+
+@test
+def output_is_full_in_the_middle_of_the_text():
+    # The file takes 512 bytes. A write beyond them fails, since the signal for it is ignored.
+    limiting = ("sh", "-c", "trap '' XFSZ; ulimit -f 1; exec \"$@\"", "sh")
+    with tempfile.TemporaryFile() as file:
+        expect_refusal(run(MANY_LINES, bytes(6400), file, limiting), WRITING)
+        file.seek(0)
+        expect_part(lines_of_zeros(6400), file.read())
+
+
+@test
+def output_takes_a_part_and_would_block():
+    length = 200_000
+    with pipe() as (source, sink):
+        set_non_blocking(sink)
+        expect_refusal(run(MANY_LINES, bytes(length), sink), WRITING)
+        sink.close()
+        expect_part(lines_of_zeros(length), source.read())
+
+
+@test
+def output_is_taken_slowly():
+    length, pieces = 640_000, []
+
+    def take(source):
+        while piece := source.read(30_000):
+            pieces.append(piece)
+            sleep(0.001)
+
+    with pipe() as (source, sink):
+        taking = in_background(lambda: take(source))
+        came = run(MANY_LINES, bytes(length), sink)
+        sink.close()
+        taking.join()
+    expect(came)
+    expect(came._replace(output=b"".join(pieces)), output=lines_of_zeros(length))
+
+
+@test
+def output_goes_on_after_what_the_file_has():
+    with tempfile.TemporaryFile() as file:
+        file.write(b"kept\n")
+        file.flush()
+        expect(run(PLAN, b"abc", file))
+        file.seek(0)
+        expect_same("the file", b"kept\n" + ABC, file.read())
+
+
+@test
+def empty_plan_needs_no_output():
+    with open("/dev/full", "wb") as full:
+        expect(run(PLAN, b"", full))
+    expect(run(PLAN, b"", starter=closing(">&")))
+
+
+@test
+def notes_that_nobody_takes_leave_the_status():
+    rows = [
+        (PLAN, b"abc", 0, ABC),
+        (PLAN, b"", 0, b""),
+        ([STORE], b"", 2, b""),
+        ([STORE, "plan", "bits=17"], b"abc", 14, b""),
+    ]
+
+    def expect_row(words, source, status, output):
+        for starter in (closing("2>&"), ("sh", "-c", 'exec "$@" 2>/dev/full', "sh")):
+            expect(run(words, source, starter=starter), status, output)
+
+    each_row(rows, expect_row)
+
+
+@test
+def two_streams_are_closed():
+    expect(run(PLAN, starter=("sh", "-c", 'exec "$@" <&- 2>&-', "sh")), status=10)
+    expect(run(PLAN, b"abc", starter=("sh", "-c", 'exec "$@" >&- 2>&-', "sh")), status=11)
+
+
+@test
+def all_streams_are_closed():
+    starter = ("sh", "-c", 'exec "$@" <&- >&- 2>&-', "sh")
+    expect(run(PLAN, starter=starter), status=10)
+
+
+def with_memory(kibibytes):
+    """A starter that lets the program have no more memory than this."""
+    return ("sh", "-c", 'ulimit -v "$0"; exec "$@"', str(kibibytes))
+
+
+@test
+def input_that_memory_does_not_hold_is_refused():
+    with tempfile.TemporaryFile() as zeros:
+        zeros.truncate(LONGEST_INPUT)
+        expect_refusal(run(PLAN, zeros, starter=with_memory(100_000)), "out of memory")
+
+
+@test
+def text_that_memory_does_not_hold_is_not_begun():
+    words, length = [*PLAN, "min=48", "max=48"], 4_000_000
+    lines = reference.lines_of(bytes(length), [48] * (length // 48) + [length % 48])
+    statuses = set()
+    for kibibytes in range(12_000, 33_000, 3_000):
+        with tempfile.TemporaryFile() as zeros:
+            zeros.truncate(length)
+            came = run(words, zeros, starter=with_memory(kibibytes))
+        statuses.add(came.status)
+        if came.status == 0:
+            expect(came, output=lines)
+        else:
+            expect_refusal(came, "out of memory")
+    expect_same("statuses from too little memory to enough", {0, 13}, statuses)
