@@ -8,7 +8,7 @@ from pathlib import Path
 import harness
 
 # The number of tests in the file of each subject.
-SUBJECTS = {"plan": 33, "words": 7, "streams": 24, "documents": 6}
+SUBJECTS = {"plan": 33, "words": 7, "streams": 24, "documents": 6, "demo": 2}
 OTHERS = {"collect", "harness", "reference"}
 
 

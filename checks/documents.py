@@ -3,13 +3,23 @@
 import os
 import re
 import shlex
+import tempfile
 from pathlib import Path
 from subprocess import DEVNULL
 from typing import NamedTuple
 
-from harness import PROGRAM, STATUSES, STORE, Mismatch, ended, expect_same, test
+from harness import (
+    PROGRAM,
+    STATUSES,
+    STORE,
+    Mismatch,
+    each_row,
+    ended,
+    expect_early_refusal,
+    expect_same,
+    test,
+)
 from reference import DEFAULTS
-from words import expect_early_refusal
 
 ROOT = Path(__file__).resolve().parent.parent
 COMMANDS = ROOT / "docs/COMMANDS.md"
@@ -42,28 +52,23 @@ def examples_in(text):
     return [it for block in FENCED.findall(text) for it in examples_of_block(block)]
 
 
-def put_on_path(folder):
-    """Makes a folder in which the program is named `backup`, and returns a PATH that has it."""
-    folder.mkdir()
-    (folder / "backup").symlink_to(PROGRAM)
-    return f"{folder}{os.pathsep}{os.environ['PATH']}"
+def shown_by(examples):
+    """Runs the examples one after another in one shell, and returns what each shows."""
+    with tempfile.TemporaryDirectory() as folder:
+        os.symlink(PROGRAM, f"{folder}/backup")
+        lines = [f'PATH={folder}:"$PATH"']
+        for number, example in enumerate(examples):
+            # A terminal has the output and the notes.
+            lines.append(f"eval {shlex.quote(example.command)} >{folder}/{number} 2>&1")
+        ended(["bash", "-c", "\n".join(lines)], stdin=DEVNULL, capture_output=True)
+        return [Path(folder, str(number)).read_text() for number in range(len(examples))]
 
 
 def expect_examples(text):
-    """Runs the examples of a document, one after another in one shell, as a reader types them."""
     examples = examples_in(text)
     if not examples:
         raise Mismatch(f"wanted examples with the prompt {PROMPT!r}, came none")
-    outputs = Path.cwd().parent / "outputs"
-    outputs.mkdir(exist_ok=True)
-    path = put_on_path(Path.cwd().parent / f"path{len(os.listdir('..'))}")
-    lines = [f"PATH={shlex.quote(path)}"]
-    for number, example in enumerate(examples):
-        # Notes are on the terminal too, so both streams count.
-        lines.append(f"eval {shlex.quote(example.command)} >{outputs}/{number} 2>&1")
-    ended(["bash", "-c", "\n".join(lines)], stdin=DEVNULL, capture_output=True)
-    for number, example in enumerate(examples):
-        came = (outputs / str(number)).read_text(errors="replace")
+    for example, came in zip(examples, shown_by(examples), strict=True):
         expect_same(f"what {example.command.strip()!r} shows", example.output, came)
 
 
@@ -78,23 +83,27 @@ def examples_of_the_readme_come_out():
 
 
 WRONG_EXAMPLES = [
-    "$ printf abc | backup s plan\n0 3 ba7816bf8f01cfea\n",
-    "$ printf abc | backup s plan\n",
-    "$ backup s plan bits=17\n",
-    "$ backup s plan bits=17\nbackup: bad parameter: bit\n",
-    "$ backup s; echo $?\nbackup: bad words at 0: missing\n3\n",
-    "$ backup s plan </dev/null\n\n",
+    ("printf abc | backup s plan", "0 3 ba7816bf8f01cfea\n"),
+    ("printf abc | backup s plan", ""),
+    ("backup s plan </dev/null", "\n"),
+    ("backup s plan bits=17", ""),
+    ("backup s plan bits=17", "backup: bad parameter: bit\n"),
+    ("backup s; echo $?", "backup: bad words at 0: missing\n3\n"),
 ]
 
 
 @test
 def examples_with_wrong_output_are_noticed():
-    for block in WRONG_EXAMPLES:
+    def expect_row(command, output):
+        text = f"```\n{PROMPT}{command}\n{output}```\n"
+        expect_same("the examples", [Example(f"{command}\n", output)], examples_in(text))
         try:
-            expect_examples(f"```\n{block}```\n")
+            expect_examples(text)
         except Mismatch:
-            continue
-        raise Mismatch(f"wanted a mismatch at {block!r}, came none")
+            return
+        raise Mismatch("wanted a mismatch, came none")
+
+    each_row(WRONG_EXAMPLES, expect_row)
 
 
 def rows_of_tables(path):
@@ -130,8 +139,8 @@ def table_of_statuses_has_each_status_with_its_note():
 
 @test
 def table_of_keys_has_the_defaults():
-    rows = {row[0]: row[1:] for row in rows_of_tables(COMMANDS)}
+    rows = rows_of_tables(COMMANDS)
     for key, number in vars(DEFAULTS).items():
         default = f"{number:x}" if key == "polynomial" else str(number)
-        if default not in rows.get(key, []):
-            raise Mismatch(f"wanted a row of {key} with {default}, came {rows.get(key)}")
+        if not any(row[0] == key and default in row for row in rows):
+            raise Mismatch(f"wanted a row of {key} with {default}, came none")

@@ -108,6 +108,13 @@ def expect_refusal(came, note, output=b""):
     expect(came, status_of(note), output, f"backup: {note}\n".encode())
 
 
+def expect_early_refusal(words, note):
+    """Expects that the words are refused before anything is read or written."""
+    with file_of(b"abc") as source:
+        expect_refusal(run(words, source), note)
+        expect_same("bytes taken", 0, position_of(source))
+
+
 def expect_same(what, wanted, came):
     if wanted != came:
         raise Mismatch(f"{what}: wanted {wanted!r}, came {came!r}")

@@ -8,10 +8,16 @@ from random import Random
 
 import reference
 from harness import STORE, Mismatch, add_test, each_row, expect, file_of, run, test
-from reference import DEFAULTS, KNOWN_CUTS, WINDOW, Params, marked_zeros
-
-LONGEST_INPUT = 2**28
-LONGEST_CHUNK = 2**20
+from reference import (
+    DEFAULTS,
+    KNOWN_CUTS,
+    LONGEST_CHUNK,
+    LONGEST_INPUT,
+    WINDOW,
+    Params,
+    keys_of,
+    marked_zeros,
+)
 
 # Degrees 16 and 17 are the least, 63 is the greatest.
 EDGE_POLYNOMIALS = [
@@ -26,14 +32,6 @@ EDGE_POLYNOMIALS = [
     0x800000000000001B,
     0xFFFFFFFFFFFFFFFF,
 ]
-
-
-def keys_of(params):
-    """The keys that `plan` needs to cut by these parameters."""
-    if params == DEFAULTS:
-        return []
-    numbers = [f"{key}={getattr(params, key)}" for key in ("bits", "target", "min", "max")]
-    return [f"polynomial={params.polynomial:x}", *numbers]
 
 
 def expect_lengths(params, text, lengths):

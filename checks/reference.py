@@ -11,6 +11,8 @@ from random import Random
 from typing import NamedTuple
 
 WINDOW = 48
+LONGEST_INPUT = 2**28
+LONGEST_CHUNK = 2**20
 
 
 @dataclass(frozen=True)
@@ -20,6 +22,14 @@ class Params:
     target: int = 120
     min: int = 2048
     max: int = 65536
+
+
+def keys_of(params):
+    """The keys that `plan` needs to cut by these parameters, each with its value."""
+    if params == Params():
+        return []
+    numbers = [f"{key}={getattr(params, key)}" for key in ("bits", "target", "min", "max")]
+    return [f"polynomial={params.polynomial:x}", *numbers]
 
 
 def remainder(polynomial, dividend):

@@ -21,8 +21,7 @@ from harness import (
     run,
     test,
 )
-from plan import LONGEST_INPUT, keys_of
-from reference import DEFAULTS, KNOWN_CUTS, SPARSE_ZERO
+from reference import DEFAULTS, KNOWN_CUTS, LONGEST_INPUT, SPARSE_ZERO, keys_of
 
 PLAN = [STORE, "plan"]
 ABC = reference.plan(DEFAULTS, b"abc")
@@ -287,7 +286,7 @@ def text_that_memory_does_not_hold_is_not_begun():
     words, length = [*PLAN, "min=48", "max=48"], 4_000_000
     lines = reference.lines_of(bytes(length), [48] * (length // 48) + [length % 48])
     statuses = set()
-    for kibibytes in range(12_000, 33_000, 3_000):
+    for kibibytes in range(8_000, 36_000, 4_000):
         with tempfile.TemporaryFile() as zeros:
             zeros.truncate(length)
             came = run(words, zeros, starter=with_memory(kibibytes))

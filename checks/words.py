@@ -9,23 +9,14 @@ from harness import (
     each_row,
     ended,
     expect,
+    expect_early_refusal,
     expect_refusal,
-    expect_same,
-    file_of,
-    position_of,
     run,
     test,
 )
 from reference import DEFAULTS
 
 ABC = reference.plan(DEFAULTS, b"abc")
-
-
-def expect_early_refusal(words, note):
-    """Expects that the words are refused before anything is read or written."""
-    with file_of(b"abc") as source:
-        expect_refusal(run(words, source), note)
-        expect_same("bytes taken", 0, position_of(source))
 
 
 BAD_PARAMS = [
@@ -167,16 +158,23 @@ WRONG_WORDS = [
     (["store", "plan", *ALL_KEYS, "polynomial=10001"], "6: twice"),
     (["store", "plan", *ALL_KEYS, "max=x"], "6: twice"),
     (["store", "plan", *ALL_KEYS, "speed=3", "bits=9"], "6: key"),
-    # Many words, and words as long as the system takes them.
+    # Many words, words as long as the system takes them, and lengths that are short modulo 2^8
+    # or 2^16.
     (["store"] * 1000, COMMAND),
     (["store", "plan"] + ["speed=3"] * 1000, KEY),
     (["store", "plan"] + ["bits=9"] * 1000, "2: twice"),
     (["store", "plan", *ALL_KEYS] + ["plan"] * 1000, "6: key"),
     (["store", "p" * 131_000], COMMAND),
+    (["store", "plan" + "n" * 2**8], COMMAND),
+    (["store", "plan" + "n" * 2**16], COMMAND),
     (["store", "plan" * 32_750], COMMAND),
     (["store", "plan" + " " * 131_000], COMMAND),
     (["store", "plan", "b" * 131_000], KEY),
     (["store", "plan", "b" * 130_000 + "=9"], KEY),
+    (["store", "plan", "bits" + "s" * 2**8 + "=9"], KEY),
+    (["store", "plan", "bits" + "s" * 2**16 + "=9"], KEY),
+    (["store", "plan", "bits=13" + "0" * 2**8], VALUE),
+    (["store", "plan", "bits=13" + "0" * 2**16], VALUE),
     (["store", "plan", "bits=" + "9" * 131_000], VALUE),
     (["store", "plan", "bits=" + "0" * 131_000], VALUE),
     (["store", "plan", "polynomial=" + "0" * 130_000 + "10001"], VALUE),
