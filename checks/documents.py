@@ -16,6 +16,7 @@ from harness import (
     each_row,
     ended,
     expect_early_refusal,
+    expect_mismatch,
     expect_same,
     test,
 )
@@ -97,11 +98,7 @@ def examples_with_wrong_output_are_noticed():
     def expect_row(command, output):
         text = f"```\n{PROMPT}{command}\n{output}```\n"
         expect_same("the examples", [Example(f"{command}\n", output)], examples_in(text))
-        try:
-            expect_examples(text)
-        except Mismatch:
-            return
-        raise Mismatch("wanted a mismatch, came none")
+        expect_mismatch(lambda: expect_examples(text))
 
     each_row(WRONG_EXAMPLES, expect_row)
 

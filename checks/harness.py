@@ -1,19 +1,18 @@
 """Runs the built program from outside. Each test has a folder of its own, which no run changes."""
 
 import os
-import stat
 import subprocess
 import tempfile
+from contextlib import contextmanager
 from itertools import zip_longest
 from pathlib import Path
 from typing import NamedTuple
 
+from rooms import STORE, entries_of, furnish, room, traces
+
 BUILT = Path(__file__).resolve().parent.parent / "crates/backup/out/backup"
 PROGRAM = Path(os.environ.get("BACKUP", BUILT)).resolve()
 SECONDS = 60
-
-# The store that each test finds in its working folder.
-STORE = "store"
 
 # The status of a run by how its note begins.
 STATUSES = {
@@ -52,12 +51,13 @@ class Run(NamedTuple):
 def run(words, source=b"", output=subprocess.PIPE, starter=(), changes=None):
     """Runs the program on bytes or on an open file, by itself or through a starter.
 
-    Of the files around it the run may change those in the folder `changes` and no others.
+    It may change what is in the folder `changes` of the working folder, and nothing else.
     """
     given = {"input" if isinstance(source, bytes) else "stdin": source}
-    before = entries_of_room()
+    before = entries_of(room())
     came = ended([*starter, PROGRAM, *words], stdout=output, stderr=subprocess.PIPE, **given)
-    expect_entries(before, entries_of_room(), changes)
+    if found := next(traces(before, entries_of(room()), changes), None):
+        raise Mismatch(f"wanted no trace of the run, and it {found}")
     return came
 
 
@@ -120,6 +120,15 @@ def expect_same(what, wanted, came):
         raise Mismatch(f"{what}: wanted {wanted!r}, came {came!r}")
 
 
+def expect_mismatch(function):
+    """Expects of a test of the tests that it fails."""
+    try:
+        function()
+    except Mismatch:
+        return
+    raise Mismatch("wanted a mismatch, came none")
+
+
 def position_of(file):
     """How far an open file was read."""
     return os.lseek(file.fileno(), 0, os.SEEK_CUR)
@@ -147,73 +156,27 @@ def short(row):
     return text if len(text) <= 200 else f"{text[:120]} .. {text[-60:]}"
 
 
-class Entry(NamedTuple):
-    mode: int
-    changed: int
-    content: bytes
-
-
-def entry_of(path):
-    status = path.lstat()
-    content = b""
-    if stat.S_ISREG(status.st_mode):
-        content = path.read_bytes()
-    elif stat.S_ISLNK(status.st_mode):
-        content = os.fsencode(os.readlink(path))
-    return Entry(status.st_mode, status.st_mtime_ns, content)
-
-
-def entries_of(folder):
-    """The folder and all in it. A file that is made and removed changes the time of its folder."""
-    folder = Path(folder)
-    paths = [folder, *folder.rglob("*")]
-    return {str(path.relative_to(folder)): entry_of(path) for path in paths}
-
-
-def room():
-    """The folder that has the working folder of this test, and what may be beside it."""
-    return Path.cwd().parent
-
-
-def entries_of_room():
-    return entries_of(room())
-
-
-def expect_entries(before, after, changes):
-    """Expects that no entry has changed, except in one folder of the working folder."""
-    free = f"{Path.cwd().name}/{changes}"
-    for name in sorted({*before, *after}):
-        in_changes = changes is not None and f"{name}/".startswith(f"{free}/")
-        if before.get(name) != after.get(name) and not in_changes:
-            what = "made" if name not in before else "removed" if name not in after else "changed"
-            raise Mismatch(f"wanted no trace, and the run {what} {name}")
-
-
-def furnish(folder):
-    """Makes the room of a test, and returns its working folder."""
-    work = folder / "work"
-    for name in ("home", "tmp", f"work/{STORE}/containers", "work/nest"):
-        (folder / name).mkdir(parents=True)
-    for name in ("book", "containers/00000000"):
-        (work / STORE / name).write_bytes(b"what stood here before\n")
-    # Times so old that every change is seen, however coarse the clock is.
-    for path in (folder, *folder.rglob("*")):
-        os.utime(path, ns=(0, 0))
-    return work
-
-
-def failure_of(function):
-    """Runs a test in a room of its own, and returns in one line how it failed, or None."""
+@contextmanager
+def fresh_room():
+    """Makes a room, and goes to its working folder for as long as it is used."""
+    before = os.getcwd()
     with tempfile.TemporaryDirectory() as folder:
         os.chdir(furnish(Path(folder)))
         try:
-            function()
-        except Mismatch as mismatch:
-            return str(mismatch)
-        except Exception as error:
-            return f"{type(error).__name__}: {' '.join(str(error).split())}"
+            yield
         finally:
-            os.chdir("/")
+            os.chdir(before)
+
+
+def failure_of(function):
+    """Runs a test in a fresh room, and returns in one line how it failed, or None."""
+    try:
+        with fresh_room():
+            function()
+    except Mismatch as mismatch:
+        return str(mismatch)
+    except Exception as error:
+        return f"{type(error).__name__}: {' '.join(str(error).split())}"
     return None
 
 

@@ -3,7 +3,7 @@
 import hashlib
 import tempfile
 from dataclasses import replace
-from functools import partial
+from functools import lru_cache, partial
 from random import Random
 
 import reference
@@ -240,13 +240,37 @@ def spellings_of_a_number_are_read():
         expect(run([STORE, "plan", *keys], text), output=lines)
 
 
+def marks_of_the_longest_input():
+    """Candidates near each power of 2 and, apart from these, about one in 3 MB."""
+    draw, candidates = Random(28), {LONGEST_INPUT}
+    for power in range(16, 28):
+        candidates.add(2**power + draw.randrange(-1, 2))
+    for start in range(2**20, LONGEST_INPUT - 2**20, 3_000_000):
+        candidates.add(start + draw.randrange(900_000))
+    return sorted(candidates)
+
+
+@lru_cache(maxsize=None)
+def name_of_marked_zeros(length, indexes):
+    return hashlib.sha256(marked_zeros(DEFAULTS.target, indexes, length)).hexdigest()
+
+
+def lines_of_marked_zeros(candidates, length):
+    """The lines of a text too long to be held, of which each distinct chunk is named once."""
+    offset = 0
+    for size in reference.lengths_between(DEFAULTS, candidates, length):
+        indexes = tuple(it - 1 - offset for it in candidates if offset < it <= offset + size)
+        yield f"{offset} {size} {name_of_marked_zeros(size, indexes)}\n"
+        offset += size
+
+
 @test
 def longest_input_is_cut():
-    zeros, last = bytes(65536), bytes(65535) + b"\x01"
-    names = [hashlib.sha256(zeros).hexdigest()] * 4095 + [hashlib.sha256(last).hexdigest()]
-    lines = (f"{65536 * index} 65536 {name}\n" for index, name in enumerate(names))
+    candidates = marks_of_the_longest_input()
     with tempfile.TemporaryFile() as source:
-        source.seek(LONGEST_INPUT - 1)
-        source.write(b"\x01")
+        for candidate in candidates:
+            source.seek(candidate - 1)
+            source.write(bytes([DEFAULTS.target]))
         source.seek(0)
-        expect(run([STORE, "plan"], source), output="".join(lines).encode())
+        lines = "".join(lines_of_marked_zeros(candidates, LONGEST_INPUT)).encode()
+        expect(run([STORE, "plan"], source), output=lines)

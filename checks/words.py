@@ -1,6 +1,4 @@
-"""Which words are refused and with what note, and which STORE is taken."""
-
-import os
+"""Which words are refused and with what note."""
 
 import reference
 from harness import (
@@ -193,47 +191,6 @@ def wrong_words_are_refused_by_their_place():
 def program_name_that_is_no_text_is_refused_like_a_word():
     came = ended([b"\xff", STORE, "plan"], executable=PROGRAM, input=b"abc", capture_output=True)
     expect_refusal(came, "bad words at 0: command")
-
-
-STORES = [
-    "store",
-    "./store/",
-    "untouched",
-    "nest/untouched",
-    "no/such/folder/store",
-    "store/book",
-    "store/book/store",
-    "/",
-    "/dev/null",
-    ".",
-    "..",
-    "",
-    " ",
-    "\n",
-    "--",
-    "-",
-    "--help",
-    "plan",
-    "bits=9",
-    "störe",
-    "s" * 256,
-    "s/" * 3000,
-    "s" * 131_000,
-]
-
-
-@test
-def any_store_is_taken_and_none_is_touched():
-    def expect_row(store):
-        expect(run([store, "plan"], b"abc"), output=ABC)
-
-    each_row(((store,) for store in STORES), expect_row)
-
-
-@test
-def store_that_is_a_link_is_not_followed():
-    os.symlink("nowhere", "link")
-    expect(run(["link", "plan"], b"abc"), output=ABC)
 
 
 @test
