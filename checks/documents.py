@@ -69,7 +69,7 @@ def expect_examples(text):
     examples = examples_in(text)
     if not examples:
         raise Mismatch(f"wanted examples with the prompt {PROMPT!r}, came none")
-    for example, came in zip(examples, shown_by(examples), strict=True):
+    for example, came in zip(examples, shown_by(examples)):
         expect_same(f"what {example.command.strip()!r} shows", example.output, came)
 
 

@@ -62,7 +62,7 @@ def run(words, source=b"", output=subprocess.PIPE, starter=(), changes=None):
 
 
 def ended(command, **given):
-    """Runs a command to its end, with the room's folders as those of the user."""
+    """Runs a command to its end. Its home and its folder for temporary files are in the room."""
     folders = {"HOME": f"{room()}/home", "TMPDIR": f"{room()}/tmp"}
     given.update(env={**os.environ, **folders}, timeout=SECONDS)
     try:
@@ -78,7 +78,7 @@ def closing(descriptor):
 
 
 def difference(wanted, came):
-    """Says where two runs differ, each stream by its first line that does."""
+    """Says how two runs differ, each stream by its first line that does."""
     if wanted.status != came.status:
         yield f"status: wanted {wanted.status}, came {came.status}"
     for stream in ("output", "notes"):

@@ -170,7 +170,7 @@ def every_mark_in_a_long_text_cuts_by_the_limits():
 
 
 LIMIT_ROWS = [
-    # The index of a mark or None, the length of the text, and the lengths of its chunks.
+    # Keys, the index of a mark or None, the length of the text, and the lengths of its chunks.
     (["max=1048576"], None, 2**21 + 1, [2**20, 2**20, 1]),
     (["max=1048576"], 2**20 - 1, 2**20 + 50, [2**20, 50]),
     (["max=1048576"], 2**20 - 2, 2**20 + 50, [2**20 - 1, 51]),

@@ -42,7 +42,7 @@ def remainder(polynomial, dividend):
 
 @lru_cache(maxsize=None)
 def remainders_of_bytes(polynomial):
-    """For each byte, its remainder where its lowest bit is the coefficient of t^degree."""
+    """For each byte, its remainder if its lowest bit is the coefficient of t^degree."""
     degree = polynomial.bit_length() - 1
     return [remainder(polynomial, byte << degree) for byte in range(256)]
 

@@ -49,7 +49,7 @@ def store_that_is_a_link_is_not_followed():
     expect(run(["link", "plan"], b"abc"), output=ABC)
 
 
-# What a wrong program might do in its working folder, as words of a shell.
+# Commands of a shell that do what a wrong program might do in its working folder.
 TRACES = [
     "echo >made",
     "echo >../made",

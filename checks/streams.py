@@ -2,6 +2,7 @@
 
 import fcntl
 import os
+import socket
 import tempfile
 from contextlib import contextmanager, suppress
 from threading import Thread
@@ -70,7 +71,7 @@ def trickle(text):
 
 
 @test
-def input_comes_byte_by_byte():
+def input_that_comes_byte_by_byte_is_cut():
     known = KNOWN_CUTS["minimum_counts_from_the_last_cut"]
     with trickle(known.text) as source:
         came = run(PLAN, source)
@@ -78,7 +79,7 @@ def input_comes_byte_by_byte():
 
 
 @test
-def input_comes_after_pauses():
+def input_that_comes_after_pauses_is_cut():
     def write(sink):
         with sink:
             for byte in b"abc":
@@ -93,7 +94,16 @@ def input_comes_after_pauses():
 
 
 @test
-def input_is_a_file_that_was_read_before():
+def input_from_a_socket_is_cut():
+    reader, writer = socket.socketpair()
+    with reader:
+        with writer:
+            writer.sendall(b"abc")
+        expect(run(PLAN, reader), output=ABC)
+
+
+@test
+def file_is_read_from_where_it_stands():
     with file_of(b"0123456789abc") as source:
         source.seek(10)
         expect(run(PLAN, source), output=ABC)
@@ -101,31 +111,31 @@ def input_is_a_file_that_was_read_before():
 
 
 @test
-def input_is_a_file_that_was_read_to_its_end():
+def file_that_was_read_to_its_end_has_no_chunk():
     with file_of(b"abc") as source:
         source.seek(0, os.SEEK_END)
         expect(run(PLAN, source))
 
 
 @test
-def input_is_empty():
+def empty_device_has_no_chunk():
     with open("/dev/null", "rb") as empty:
         expect(run(PLAN, empty))
 
 
 @test
-def input_is_closed():
+def closed_input_is_refused():
     expect_refusal(run(PLAN, starter=closing("<&")), READING)
 
 
 @test
-def input_is_open_for_writing_only():
+def input_for_writing_only_is_refused():
     with open("/dev/null", "wb") as sink:
         expect_refusal(run(PLAN, sink), READING)
 
 
 @test
-def input_is_a_folder():
+def folder_as_input_is_refused():
     folder = os.open(".", os.O_RDONLY)
     try:
         expect_refusal(run(PLAN, folder), READING)
@@ -134,18 +144,18 @@ def input_is_a_folder():
 
 
 @test
-def input_has_some_bytes_and_would_block():
+def input_that_would_block_is_refused():
     def expect_row(length):
         with pipe() as (source, sink):
             set_non_blocking(source)
             sink.write(bytes(length))
             expect_refusal(run(MANY_LINES, source), READING)
 
-    each_row([(0,), (3,), (50_000,)], expect_row)
+    each_row([(0,), (3,), (4_000,)], expect_row)
 
 
 @test
-def input_that_is_too_long_is_read_to_the_first_byte_too_many():
+def too_long_input_is_read_to_the_first_byte_too_many():
     def expect_row(length):
         with tempfile.TemporaryFile() as zeros:
             zeros.truncate(length)
@@ -157,24 +167,24 @@ def input_that_is_too_long_is_read_to_the_first_byte_too_many():
 
 
 @test
-def output_is_closed():
+def closed_output_is_refused():
     expect_refusal(run(PLAN, b"abc", starter=closing(">&")), WRITING)
 
 
 @test
-def output_is_open_for_reading_only():
+def output_for_reading_only_is_refused():
     with open("/dev/null", "rb") as source:
         expect_refusal(run(PLAN, b"abc", source), WRITING)
 
 
 @test
-def output_is_full():
+def full_output_is_refused():
     with open("/dev/full", "wb") as full:
         expect_refusal(run(PLAN, b"abc", full), WRITING)
 
 
 @test
-def output_has_no_reader():
+def output_without_a_reader_is_refused():
     with pipe() as (source, sink):
         source.close()
         expect_refusal(run(PLAN, b"abc", sink), WRITING)
@@ -187,7 +197,7 @@ def expect_part(wanted, written):
 
 
 @test
-def output_is_full_in_the_middle_of_the_text():
+def output_that_fills_up_has_a_part_of_the_text():
     # The file takes 512 bytes. A write beyond them fails, since the signal for it is ignored.
     limiting = ("sh", "-c", "trap '' XFSZ; ulimit -f 1; exec \"$@\"", "sh")
     with tempfile.TemporaryFile() as file:
@@ -197,7 +207,7 @@ def output_is_full_in_the_middle_of_the_text():
 
 
 @test
-def output_takes_a_part_and_would_block():
+def output_that_would_block_has_a_part_of_the_text():
     length = 200_000
     with pipe() as (source, sink):
         set_non_blocking(sink)
@@ -207,7 +217,7 @@ def output_takes_a_part_and_would_block():
 
 
 @test
-def output_is_taken_slowly():
+def slow_reader_gets_the_whole_text():
     length, pieces = 640_000, []
 
     def take(source):
@@ -225,7 +235,7 @@ def output_is_taken_slowly():
 
 
 @test
-def output_goes_on_after_what_the_file_has():
+def text_is_written_after_what_the_file_has():
     with tempfile.TemporaryFile() as file:
         file.write(b"kept\n")
         file.flush()
@@ -242,7 +252,7 @@ def empty_plan_needs_no_output():
 
 
 @test
-def notes_that_nobody_takes_leave_the_status():
+def status_stays_if_the_note_cannot_be_written():
     rows = [
         (PLAN, b"abc", 0, ABC),
         (PLAN, b"", 0, b""),
@@ -258,15 +268,13 @@ def notes_that_nobody_takes_leave_the_status():
 
 
 @test
-def two_streams_are_closed():
-    expect(run(PLAN, starter=("sh", "-c", 'exec "$@" <&- 2>&-', "sh")), status=10)
-    expect(run(PLAN, b"abc", starter=("sh", "-c", 'exec "$@" >&- 2>&-', "sh")), status=11)
+def status_stays_if_several_streams_are_closed():
+    rows = [("<&- 2>&-", b"", 10), (">&- 2>&-", b"abc", 11), ("<&- >&- 2>&-", b"", 10)]
 
+    def expect_row(closed, source, status):
+        expect(run(PLAN, source, starter=("sh", "-c", f'exec "$@" {closed}', "sh")), status)
 
-@test
-def all_streams_are_closed():
-    starter = ("sh", "-c", 'exec "$@" <&- >&- 2>&-', "sh")
-    expect(run(PLAN, starter=starter), status=10)
+    each_row(rows, expect_row)
 
 
 def with_memory(kibibytes):

@@ -203,5 +203,5 @@ def five_keys_are_taken_in_any_order():
 
 
 @test
-def environment_is_not_asked_for():
+def environment_does_not_matter():
     expect(run([STORE, "plan"], b"abc", starter=("env", "-i")), output=ABC)
