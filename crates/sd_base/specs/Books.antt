@@ -1,5 +1,5 @@
 -- What the records of a store's book say: its sessions in the order of their ingests, and its chunks in order of first
--- occurrence. Defined by this project.
+-- occurrence. All rules here are this project's own.
 use Rattle.std.specs.Prelude.{◌≡◌, ◌⊎◌, ℕ, zero, suc, ◌+◌, ◌<◌, ◌≤◌, ◌==◌, ◌&&◌, nat_le, Bool, true, false, IsTrue, if◌then◌else◌, List, [], ◌∷◌, ◌++◌, length, take, slice_index_or, Option, Some, None, unwrap_or, option_map}
 use Rattle.std.specs.List.{All, flat_map, fold, sum_by, position, slice_get}
 use Rattle.std.specs.Str.{bytes_eq}
@@ -36,7 +36,7 @@ chunks_in sessions = flat_map (λ session. session.entry.fresh) sessions
 abbrev pub places_in : List Session → ℕ
 places_in sessions = sum_by (λ session. length session.entry.recipe) sessions
 
--- whether a session is live: not where there is none of the number
+-- whether the session of a number is live: false if there is none
 abbrev pub is_live : List Session → ℕ → Bool
 is_live sessions k = unwrap_or (option_map (λ session. session.live) (slice_get sessions k)) false
 
@@ -44,15 +44,16 @@ is_live sessions k = unwrap_or (option_map (λ session. session.live) (slice_get
 abbrev pub live_session : List Session → List ℕ → Option ℕ
 live_session sessions name = position (λ session. session.live && bytes_eq session.entry.name name) sessions
 
--- an ingest that may follow these sessions, where no chunk is longer than a maximum
+-- an ingest may follow these sessions: no new chunk is longer than a maximum, no live session has the name, and the book
+-- stays within its limits
 pub record MayIngest (max : ℕ) (sessions : List Session) (entry : IngestRecord) : Type 0 where
   pub short_chunks : All (λ chunk. chunk.length ≤ max) entry.fresh
   pub free_name : live_session sessions entry.name ≡ None
-  pub few_sessions : length sessions < MAX_SESSIONS
-  pub few_places : places_in sessions + length entry.recipe ≤ MAX_PLACES
-  pub few_chunks : length (chunks_in sessions) + length entry.fresh ≤ MAX_CHUNKS
+  pub session_limit : length sessions < MAX_SESSIONS
+  pub place_limit : places_in sessions + length entry.recipe ≤ MAX_PLACES
+  pub chunk_limit : length (chunks_in sessions) + length entry.fresh ≤ MAX_CHUNKS
 
--- a record that may follow these sessions
+-- a record may follow these sessions; a drop, if its session is live
 abbrev pub MayFollow : ℕ → List Session → Record → Type 0
 MayFollow max sessions (Ingest entry) = MayIngest max sessions entry
 MayFollow max sessions (Drop k) = IsTrue (is_live sessions k)
@@ -67,18 +68,18 @@ AreRecords max sessions (entry ∷ records) =
 abbrev pub book_of : List Record → List ℕ
 book_of records = flat_map spelling_of records
 
--- so many records stand at the front of bytes, and each may follow those before it
+-- the bytes begin with these records, and each may follow those before it
 pub record HoldsRecords (max : ℕ) (bytes : List ℕ) (records : List Record) : Type 0 where
   pub lawful : AreRecords max [] records
-  pub behind : List ℕ
-  pub spelled : bytes ≡ book_of records ++ behind
+  pub rest : List ℕ
+  pub spelled : bytes ≡ book_of records ++ rest
 
--- record k is the first that is not whole, not of the grammar, or may not follow those before it
+-- k records stand at the front of the bytes, and none that may follow them stands there next
 pub record IsFirstBadRecord (max : ℕ) (bytes : List ℕ) (k : ℕ) : Type 0 where
   pub before : List Record
   pub count : length before ≡ k
   pub holds : HoldsRecords max bytes before
-  pub none : (entry : Record) (n : ℕ) → BeginsWith holds.behind entry n → MayFollow max (sessions_of before) entry → ⊥
+  pub none : (entry : Record) (n : ℕ) → BeginsWith holds.rest entry n → MayFollow max (sessions_of before) entry → ⊥
 
 -- the bytes of the chunks that a recipe names
 abbrev pub bytes_named : List NewChunk → List ℕ → ℕ
@@ -88,8 +89,8 @@ abbrev pub or_else : Option ℕ → Option ℕ → Option ℕ
 or_else None other = other
 or_else (Some place) other = Some place
 
--- the place where a recipe fails among the chunks of the book up to and with its record: the first entry that names no
--- chunk, or else its end where the lengths do not sum to the length of the input
+-- the place at which a recipe fails among the chunks of the book up to and with its record: the first entry that names no
+-- chunk; otherwise its end, if the lengths do not sum to the length of the input
 abbrev pub recipe_flaw : List NewChunk → IngestRecord → Option ℕ
 recipe_flaw chunks entry =
     or_else (position (λ n. nat_le (length chunks) n) entry.recipe)
@@ -99,7 +100,7 @@ abbrev pub flaw_at : ℕ → Option ℕ → Option Damage → Option Damage
 flaw_at session None later = later
 flaw_at session (Some place) later = Some (Recipe session place)
 
--- the first recipe that fails, of sessions from a number on, behind the chunks of those before them
+-- the first recipe that fails, of sessions from number k on, after the chunks of those before them
 abbrev pub recipe_damage : List NewChunk → ℕ → List Session → Option Damage
 recipe_damage chunks k [] = None
 recipe_damage chunks k (session ∷ sessions) =
@@ -120,44 +121,44 @@ with_record book entry = record {
   max = book.max;
 }
 
--- the book of records, where no chunk is longer than a maximum
+-- the book of records
 abbrev pub book_after : ℕ → List Record → BookState
 book_after max records = record { sessions = sessions_of records; used = length (book_of records); max = max }
 
--- the book of the n records that bytes begin with, where no recipe fails
+-- the book of the n records that bytes begin with; no recipe fails
 pub record IsReplay (max : ℕ) (bytes : List ℕ) (n : ℕ) (book : BookState) : Type 0 where
   pub records : List Record
   pub count : length records ≡ n
   pub holds : HoldsRecords max bytes records
   pub recipes : recipe_damage [] 0 (sessions_of records) ≡ None
-  pub is : book ≡ book_after max records
+  pub equals : book ≡ book_after max records
 
 -- the first bad record of n
 pub record IsRecordDamage (max : ℕ) (bytes : List ℕ) (n : ℕ) (damage : Damage) : Type 0 where
   pub k : ℕ
   pub within : k < n
   pub first : IsFirstBadRecord max bytes k
-  pub is : damage ≡ BadRecord k
+  pub equals : damage ≡ BadRecord k
 
--- the first recipe that fails, where none of n records is bad
+-- the first recipe that fails; none of the n records is bad
 pub record IsRecipeDamage (max : ℕ) (bytes : List ℕ) (n : ℕ) (damage : Damage) : Type 0 where
   pub records : List Record
   pub count : length records ≡ n
   pub holds : HoldsRecords max bytes records
   pub first : recipe_damage [] 0 (sessions_of records) ≡ Some damage
 
--- what is wrong with bytes that are to begin with n records
+-- what is first wrong with bytes that must begin with n records
 abbrev pub IsBookDamage : ℕ → List ℕ → ℕ → Damage → Type 0
 IsBookDamage max bytes n damage = IsRecordDamage max bytes n damage ⊎ IsRecipeDamage max bytes n damage
 
--- wherever a replay gives the old book, one with this record more behind the others gives the new one, if no recipe of the
--- new one fails
+-- if the old book is the replay of some bytes, then the new one is the replay of its records with this one after them, if no
+-- recipe of the new one fails
 abbrev pub IsReplayedOn : BookState → Record → BookState → Type 0
 IsReplayedOn old entry new =
     (bytes rest : List ℕ) (n : ℕ) → IsReplay old.max bytes n old → recipe_damage [] 0 new.sessions ≡ None →
     IsReplay old.max (take old.used bytes ++ (spelling_of entry ++ rest)) (n + 1) new
 
--- a book with a record that may follow is what a replay gives
+-- a book with one more record, which may follow, is a replay
 abbrev pub AddingIsReplaying : Type 0
 AddingIsReplaying =
     (book : BookState) (entry : Record) → IsRecord entry → MayFollow book.max book.sessions entry →

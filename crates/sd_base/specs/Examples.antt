@@ -21,6 +21,7 @@ use Rattle.sd_base.specs.Texts.{plan_text}
 use Rattle.sd_base.specs.OnePass.{one_pass}
 use Rattle.sd_base.specs.declared.raw_params.RawParams.{RawParams}
 use Rattle.sd_base.specs.declared.limits.TheConstants.{WINDOW, MIN_POLYNOMIAL, MAX_BITS, MIN_CHUNK_LEN, MAX_NAME, MAX_INPUT, MAX_CHUNKS, MAX_PLACES, MAX_SESSIONS, MAX_CONTAINER, CONTAINER_HEADER, MAX_CHUNK_LEN, DEFAULT_POLYNOMIAL, DEFAULT_BITS, DEFAULT_TARGET, DEFAULT_MIN, DEFAULT_MAX, DEFAULT_WORKERS, DEFAULT_SEGMENT}
+use Rattle.sd_base.specs.declared.record.TheConstants.{INGEST_KIND, DROP_KIND, NUMBER_LEN, DIGEST_LEN, AROUND_BODY}
 use Rattle.sd_base.specs.declared.name.BadName.TheVariants.{Length, Letter}
 use Rattle.sd_base.specs.declared.params.BadParams.TheVariants.{Bits}
 use Rattle.sd_base.specs.declared.words.BadKind.TheVariants.{Missing, Command as NoCommand, Key as NoKey, Twice, Value}
@@ -325,3 +326,19 @@ IsValid-small_params = record {
   min = lit≤ tt;
   max = (lit≤ tt, lit≤ tt);
 }
+
+-- the kinds and the lengths of a record's parts
+pub INGEST_KIND-is : INGEST_KIND ∷ [] ≡ codes "I"
+INGEST_KIND-is = refl
+
+pub DROP_KIND-is : DROP_KIND ∷ [] ≡ codes "D"
+DROP_KIND-is = refl
+
+pub NUMBER_LEN-is : NUMBER_LEN ≡ 4
+NUMBER_LEN-is = refl
+
+pub DIGEST_LEN-is : DIGEST_LEN ≡ 32
+DIGEST_LEN-is = refl
+
+pub AROUND_BODY-is : AROUND_BODY ≡ 37
+AROUND_BODY-is = refl

@@ -1,44 +1,46 @@
--- The records of a store's book, one for each ingest and each drop, and the one spelling of each. Numbers are unsigned and
--- big-endian; the digest is SHA-256 (FIPS 180-4). Defined by this project.
+-- The records of a store's book, one for each ingest and each drop, and the one spelling of each. Numbers are unsigned
+-- and big-endian. The digest is SHA-256 (FIPS 180-4); all other rules are this project's own.
 use Rattle.std.specs.Prelude.{◌≡◌, ℕ, ◌+◌, ◌^◌, ◌<◌, ◌≤◌, List, ◌∷◌, ◌++◌, length, take, slice_range, ◌⊎◌}
 use Rattle.std.specs.Int.{w32, from_be_bytes, to_be_bytes}
 use Rattle.std.specs.List.{All, flat_map}
 use Rattle.sha2.specs.Sha256.{sha256}
 use Rattle.sd_base.specs.Names.{IsName}
 use Rattle.sd_base.specs.declared.limits.TheConstants.{MAX_CHUNK_LEN, MAX_CHUNKS, MAX_PLACES}
+use Rattle.sd_base.specs.declared.record.TheConstants.{INGEST_KIND, DROP_KIND, NUMBER_LEN, DIGEST_LEN, AROUND_BODY}
 use Rattle.sd_base.specs.declared.record.NewChunk.{NewChunk}
 use Rattle.sd_base.specs.declared.record.IngestRecord.{IngestRecord}
 use Rattle.sd_base.specs.declared.record.Record.{Record}
 use Rattle.sd_base.specs.declared.record.Record.TheVariants.{Ingest, Drop}
 
--- four bytes
-abbrev pub number : ℕ → List ℕ
-number n = to_be_bytes w32 n
+-- a number in four bytes
+abbrev pub u32_bytes : ℕ → List ℕ
+u32_bytes n = to_be_bytes w32 n
 
 -- a new chunk: its length and its name
 abbrev pub new_chunk : NewChunk → List ℕ
-new_chunk chunk = number chunk.length ++ chunk.name
+new_chunk chunk = u32_bytes chunk.length ++ chunk.name
 
--- the body of an ingest: the length of the session's name in one byte, and the name; the length of the input; the new
--- chunks, and the entries of the recipe, each behind their number
+-- the body of an ingest: the length of the session's name in one byte, and the name; the length of the input; the number
+-- of new chunks, and the chunks; the number of entries of the recipe, and the entries
 unfoldable pub ingest_body : IngestRecord → List ℕ
 ingest_body entry =
-    (length entry.name ∷ entry.name) ++ (number entry.length ++ (number (length entry.fresh) ++ (flat_map new_chunk entry.fresh
-    ++ (number (length entry.recipe) ++ flat_map number entry.recipe))))
+    (length entry.name ∷ entry.name) ++ (u32_bytes entry.length
+    ++ (u32_bytes (length entry.fresh) ++ (flat_map new_chunk entry.fresh
+    ++ (u32_bytes (length entry.recipe) ++ flat_map u32_bytes entry.recipe))))
 
 -- the first byte: `I` or `D`
 abbrev pub kind_of : Record → ℕ
-kind_of (Ingest entry) = 73
-kind_of (Drop session) = 68
+kind_of (Ingest entry) = INGEST_KIND
+kind_of (Drop session) = DROP_KIND
 
 -- the body of a drop is the number of the dropped session
 abbrev pub body_of : Record → List ℕ
 body_of (Ingest entry) = ingest_body entry
-body_of (Drop session) = number session
+body_of (Drop session) = u32_bytes session
 
 -- what the digest of a record is of: its kind, the length of its body, and the body
 abbrev pub digested : ℕ → List ℕ → List ℕ
-digested kind body = kind ∷ (number (length body) ++ body)
+digested kind body = kind ∷ (u32_bytes (length body) ++ body)
 
 -- these bytes and their digest
 abbrev pub sealed : List ℕ → List ℕ
@@ -48,7 +50,7 @@ sealed bytes = bytes ++ sha256 bytes
 unfoldable pub spelling_of : Record → List ℕ
 spelling_of entry = sealed (digested (kind_of entry) (body_of entry))
 
--- what a record may hold, beside what the types of its fields keep to: the limits
+-- the limits of an ingest. The grammar asks for more, but the types of the fields keep to the rest.
 pub record IsIngestWithinLimits (entry : IngestRecord) : Type 0 where
   pub chunks : length entry.fresh ≤ MAX_CHUNKS
   pub lengths : All (λ chunk. (1 ≤ chunk.length) × (chunk.length ≤ MAX_CHUNK_LEN)) entry.fresh
@@ -61,15 +63,15 @@ IsWithinLimits (Drop session) = Unit {0}
 -- a new chunk of the grammar
 pub record IsNewChunk (chunk : NewChunk) : Type 0 where
   pub size : (1 ≤ chunk.length) × (chunk.length ≤ MAX_CHUNK_LEN)
-  pub name : length chunk.name ≡ 32
+  pub name : length chunk.name ≡ DIGEST_LEN
 
 -- an ingest of the grammar
 pub record IsIngest (entry : IngestRecord) : Type 0 where
   pub name : IsName entry.name
   pub size : entry.length < 2 ^ 32
-  pub few_chunks : length entry.fresh ≤ MAX_CHUNKS
+  pub chunk_limit : length entry.fresh ≤ MAX_CHUNKS
   pub chunks : All IsNewChunk entry.fresh
-  pub few_places : length entry.recipe ≤ MAX_PLACES
+  pub place_limit : length entry.recipe ≤ MAX_PLACES
   pub entries : All (λ n. n < 2 ^ 32) entry.recipe
 
 -- a record of the grammar
@@ -83,15 +85,15 @@ pub record BeginsWith (bytes : List ℕ) (entry : Record) (k : ℕ) : Type 0 whe
   pub ends : k ≡ length (spelling_of entry)
   pub spelled : take k bytes ≡ spelling_of entry
 
--- the length of the body that bytes 1 to 4 state
+-- the length of the body that the bytes after the kind state
 abbrev pub stated_length : List ℕ → ℕ
-stated_length bytes = from_be_bytes w32 (slice_range bytes 1 5)
+stated_length bytes = from_be_bytes w32 (slice_range bytes 1 (1 + NUMBER_LEN))
 
--- fewer bytes than a record has whose kind and length of the body they begin with
+-- fewer bytes than a kind and a length, or fewer than the record has whose kind and length they begin with
 abbrev pub IsShort : List ℕ → Type 0
-IsShort bytes = (length bytes < 5) ⊎ (length bytes < 37 + stated_length bytes)
+IsShort bytes = (length bytes < 1 + NUMBER_LEN) ⊎ (length bytes < AROUND_BODY + stated_length bytes)
 
--- a kind and a body with their own digest stand at the front of bytes
+-- a kind, the length of a body, the body and their digest stand at the front of bytes
 pub record BeginsSealed (bytes : List ℕ) : Type 0 where
   pub kind : ℕ
   pub body : List ℕ

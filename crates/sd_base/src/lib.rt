@@ -42,6 +42,9 @@ pub use out_of_memory::OutOfMemory;
 pub use outcome::Outcome;
 pub use params::{BadParams, Params};
 pub use raw_params::RawParams;
+pub use record::{
+    AROUND_BODY, DIGEST_LEN, DROP_KIND, INGEST_KIND, IngestRecord, Items, NUMBER_LEN, NewChunk,
+    NewChunks, Recipe, Record, Session,
+};
 pub use state_laws::{container_sizes_are_by_lengths, distinct_chunks_are_each_once, each_state_has_its_files, stores_only_grow};
-pub use record::{IngestRecord, NewChunk, NewChunks, Recipe, Record, Session};
 pub use words::{BadKind, BadWords, Command, Quiet};

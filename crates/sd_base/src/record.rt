@@ -1,10 +1,25 @@
-//! The records of a store's book: what they hold.
+//! The records of a store's book: what they hold. All rules here are this project's own.
 ghost use Rattle.std.specs.Prelude.{◌≡◌};
 
 use crate::name::Name;
 use std::marker::Model;
 
-/// A chunk that no earlier session of the book has. Defined by this project.
+/// The first byte of an ingest.
+pub const INGEST_KIND: u8 = b'I';
+
+/// The first byte of a drop.
+pub const DROP_KIND: u8 = b'D';
+
+/// Bytes of a number in a record: a `u32`, big-endian.
+pub const NUMBER_LEN: usize = 4;
+
+/// Bytes of the digest of a record and of the name of a chunk: SHA-256 has 256 bits (FIPS 180-4).
+pub const DIGEST_LEN: usize = 32;
+
+/// Bytes of a record beside its body: the kind, the length of the body, and the digest.
+pub const AROUND_BODY: u32 = 1 + (NUMBER_LEN + DIGEST_LEN) as u32;
+
+/// A chunk that no earlier session of the book has.
 #[derive(Clone, Copy, Debug, PartialEq, Eq)]
 pub struct NewChunk {
     /// Its number of bytes.
@@ -13,86 +28,51 @@ pub struct NewChunk {
     pub name: [u8; 32],
 }
 
-/// New chunks, in order of first occurrence: contracts see a list. It is made from a `Vec` and gives it back without
-/// taking memory.
+/// A list in a record: contracts see its items. It is made from a `Vec`, and returns it again, without taking memory.
 #[derive(Debug, Drop)]
-pub struct NewChunks {
-    chunks: Vec<NewChunk>,
+pub struct Items<T> {
+    items: Vec<T>,
 }
 
-impl Model for NewChunks {
+impl<T> Model for Items<T> {
     ghost use Rattle.std.specs.Prelude.{List};
-    ghost use Rattle.sd_base.specs.declared.record.NewChunk.{NewChunk};
 
-    ghost Value = { List NewChunk };
+    ghost Value = { List T };
 
-    ghost view = { λ list. list.chunks.items };
+    ghost view = { λ list. list.items.items };
 }
 
-impl From<Vec<NewChunk>> for NewChunks {
-    ghost from_gives = { λ chunks list. list ≡ chunks.items };
+impl<T> From<Vec<T>> for Items<T> {
+    ghost from_gives = { λ items list. list ≡ items.items };
 
-    fn from(chunks: Vec<NewChunk>) -> Self {
-        NewChunks { chunks }
+    fn from(items: Vec<T>) -> Self {
+        Items { items }
     }
 }
 
-impl NewChunks {
-    /// The chunks, in order.
-    pub fn as_slice(&self) -> &[NewChunk]
+impl<T> Items<T> {
+    /// The items, in order.
+    pub fn as_slice(&self) -> &[T]
         ensures { result.now ≡ self.now }
     {
-        &self.chunks
+        &self.items
     }
 
-    /// The chunks again as a `Vec`.
-    pub fn into_vec(self) -> Vec<NewChunk>
+    /// The items again as a `Vec`.
+    pub fn into_vec(self) -> Vec<T>
         ensures { result.items ≡ self }
     {
-        self.chunks
+        self.items
     }
 }
 
-/// The chunks of a session by their numbers in the book, in the order of its bytes: contracts see a list. It is made
-/// from a `Vec` and gives it back without taking memory.
-#[derive(Debug, Drop)]
-pub struct Recipe {
-    entries: Vec<u32>,
-}
+/// New chunks, in order of first occurrence.
+pub type NewChunks = Items<NewChunk>;
 
-impl Model for Recipe {
-    ghost use Rattle.std.specs.Prelude.{ℕ, List};
+/// The chunks of a session by their numbers in the book, in the order of its bytes.
+pub type Recipe = Items<u32>;
 
-    ghost Value = { List ℕ };
-
-    ghost view = { λ recipe. recipe.entries.items };
-}
-
-impl From<Vec<u32>> for Recipe {
-    ghost from_gives = { λ entries recipe. recipe ≡ entries.items };
-
-    fn from(entries: Vec<u32>) -> Self {
-        Recipe { entries }
-    }
-}
-
-impl Recipe {
-    /// The entries, in order.
-    pub fn as_slice(&self) -> &[u32]
-        ensures { result.now ≡ self.now }
-    {
-        &self.entries
-    }
-
-    /// The entries again as a `Vec`.
-    pub fn into_vec(self) -> Vec<u32>
-        ensures { result.items ≡ self }
-    {
-        self.entries
-    }
-}
-
-/// What the book keeps of an ingest. Defined by this project.
+/// What the book keeps of an ingest.
 #[derive(Debug, Drop)]
 pub struct IngestRecord {
     /// The name of the session.
@@ -105,7 +85,7 @@ pub struct IngestRecord {
     pub recipe: Recipe,
 }
 
-/// A record of a store's book. Defined by this project.
+/// A record of a store's book.
 #[derive(Debug, Drop)]
 pub enum Record {
     /// A session was taken in.
@@ -114,7 +94,7 @@ pub enum Record {
     Drop(u32),
 }
 
-/// A session of a store's book. Defined by this project.
+/// A session of a store's book.
 #[derive(Debug, Drop)]
 pub struct Session {
     /// What its ingest holds.

@@ -11,7 +11,7 @@ use Rattle.sd_base.specs.declared.record.Session.{Session}
 -- the session at a place, and the chunks counted so far
 pub record IsAt (sessions : List Session) (chunks fresh : List NewChunk) (count k : ℕ) (session : Session) : Type 0 where
   pub within : k < length sessions
-  pub is : session ≡ get_or sessions k session
+  pub equals : session ≡ get_or sessions k session
   pub all : chunks ≡ chunks_in sessions
   pub fresh_is : fresh ≡ session.entry.fresh
   pub counted : count ≡ length (chunks_in (take k sessions))
@@ -27,7 +27,7 @@ chunks_split sessions k = ap chunks_in (sym (take-append-drop k sessions)) ∙ f
 
 pub count_more : (sessions : List Session) (chunks fresh : List NewChunk) (count k : ℕ) (session : Session) → IsAt sessions chunks fresh count k session → count + length fresh ≡ length (chunks_in (take (k + 1) sessions))
 count_more sessions chunks fresh count k session at =
-    omega (arith, at.counted, ap length at.fresh_is, ap length (chunks_more sessions k session at.within at.is), length-append (chunks_in (take k sessions)) session.entry.fresh)
+    omega (arith, at.counted, ap length at.fresh_is, ap length (chunks_more sessions k session at.within at.equals), length-append (chunks_in (take k sessions)) session.entry.fresh)
 
 pub count_within : (sessions : List Session) (chunks fresh : List NewChunk) (count k : ℕ) (session : Session) → IsAt sessions chunks fresh count k session → count + length fresh ≤ length chunks
 count_within sessions chunks fresh count k session at =
@@ -48,11 +48,11 @@ next_of sessions k session lt is = rw add-one (drop-cons sessions k session lt �
 damage_more : (sessions : List Session) (chunks fresh : List NewChunk) (count k : ℕ) (session : Session) (flaw : Option ℕ) → IsAt sessions chunks fresh count k session → flaw ≡ recipe_flaw (take (count + length fresh) chunks) session.entry
     → recipe_damage (chunks_in (take k sessions)) k (drop k sessions) ≡ flaw_at k flaw (recipe_damage (chunks_in (take (k + 1) sessions)) (k + 1) (drop (k + 1) sessions))
 damage_more sessions chunks fresh count k session flaw at is =
-    let behind = drop (k + 1) sessions in
+    let after = drop (k + 1) sessions in
     let front : take (count + length fresh) chunks ≡ chunks_in (take (k + 1) sessions) = front_is sessions chunks fresh count k session at in
-    ap (recipe_damage (chunks_in (take k sessions)) k) (next_of sessions k session at.within at.is)
-    ∙ ap (λ (xs : List NewChunk). flaw_at k (recipe_flaw xs session.entry) (recipe_damage xs (k + 1) behind)) (sym (chunks_more sessions k session at.within at.is))
-    ∙ ap (λ (f : Option ℕ). flaw_at k f (recipe_damage (chunks_in (take (k + 1) sessions)) (k + 1) behind)) (ap (λ (xs : List NewChunk). recipe_flaw xs session.entry) (sym front) ∙ sym is)
+    ap (recipe_damage (chunks_in (take k sessions)) k) (next_of sessions k session at.within at.equals)
+    ∙ ap (λ (xs : List NewChunk). flaw_at k (recipe_flaw xs session.entry) (recipe_damage xs (k + 1) after)) (sym (chunks_more sessions k session at.within at.equals))
+    ∙ ap (λ (f : Option ℕ). flaw_at k f (recipe_damage (chunks_in (take (k + 1) sessions)) (k + 1) after)) (ap (λ (xs : List NewChunk). recipe_flaw xs session.entry) (sym front) ∙ sym is)
 
 pub flaw_found : (sessions : List Session) (chunks fresh : List NewChunk) (count k : ℕ) (session : Session) (place : ℕ) (all : Option Damage) → IsAt sessions chunks fresh count k session → Some place ≡ recipe_flaw (take (count + length fresh) chunks) session.entry
     → recipe_damage (chunks_in (take k sessions)) k (drop k sessions) ≡ all → Some (Recipe k place) ≡ all

@@ -1,9 +1,9 @@
 -- Reading items one after another, as a loop does.
 use Rattle.std.proofs.Common.{◌≡◌, ℕ, suc, ◌-◌, ◌+◌, ◌≤◌, ◌<◌, List, [], ◌∷◌, ◌++◌, Option, Some, None, refl, sym, ap, ◌∙◌, append_assoc, arith}
 use Rattle.std.proofs.lemmas.List.{append-nil}
-use Rattle.session_book.specs.declared.reading.Stop.{Stop}
-use Rattle.session_book.specs.declared.reading.Stop.TheVariants.{Memory, Unspelled}
-use Rattle.session_book.specs.Reading.{◌>>=◌, Stops, list_at}
+use Rattle.session_book.specs.declared.record_reader.Stop.{Stop}
+use Rattle.session_book.specs.declared.record_reader.Stop.TheVariants.{Memory, Unspelled}
+use Rattle.session_book.specs.Reading.{◌>>=◌, StopsAs, list_at}
 
 -- what was read before, and what is still read
 abbrev pub with_front : {A : Type 0} → List A → Option (List A × List ℕ) → Option (List A × List ℕ)
@@ -21,8 +21,8 @@ goes_on item front count i bytes n after total lt h so_far =
     let one : with_front front (list_at item (count - i) bytes) ≡ with_front (front ++ n ∷ []) (list_at item (count - (i + 1)) after) = rw (k, h) (regroup front n (list_at item (count - (i + 1)) after)) in
     sym one ∙ so_far
 
-pub ends : {A : Type 0} (e : Stop) (item : List ℕ → Option (A × List ℕ)) (front : List A) (count i : ℕ) (bytes : List ℕ) (total : Option (List A × List ℕ)) → i < count → Stops e (item bytes)
-    → with_front front (list_at item (count - i) bytes) ≡ total → Stops e total
+pub ends : {A : Type 0} (e : Stop) (item : List ℕ → Option (A × List ℕ)) (front : List A) (count i : ℕ) (bytes : List ℕ) (total : Option (List A × List ℕ)) → i < count → StopsAs e (item bytes)
+    → with_front front (list_at item (count - i) bytes) ≡ total → StopsAs e total
 unfolding list_at
 ends Memory item front count i bytes total lt h so_far = tt
 ends Unspelled item front count i bytes total lt h so_far =

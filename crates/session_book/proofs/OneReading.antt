@@ -50,16 +50,16 @@ longer max sessions (a ∷ few) (b ∷ more) x y here there lt e =
 
 not_held : (max : ℕ) (bytes : List ℕ) (k : ℕ) (records : List Record) → IsFirstBadRecord max bytes k → HoldsRecords max bytes records → k < length records → ⊥
 not_held max bytes k records bad holds lt =
-    let next = longer max [] bad.before records bad.holds.behind holds.behind bad.holds.lawful holds.lawful (omega (arith, bad.count)) (sym bad.holds.spelled ∙ holds.spelled) in
-    bad.none next.entry (length (spelling_of next.entry)) (begins_from_rest bad.holds.behind next.entry next.rest (length (spelling_of next.entry)) next.lawful refl next.spelled) next.follows
+    let next = longer max [] bad.before records bad.holds.rest holds.rest bad.holds.lawful holds.lawful (omega (arith, bad.count)) (sym bad.holds.spelled ∙ holds.spelled) in
+    bad.none next.entry (length (spelling_of next.entry)) (begins_from_rest bad.holds.rest next.entry next.rest (length (spelling_of next.entry)) next.lawful refl next.spelled) next.follows
 
 -- ---- one answer
 
 one_list : (max : ℕ) (bytes : List ℕ) (first second : List Record) → HoldsRecords max bytes first → HoldsRecords max bytes second → length first ≡ length second → first ≡ second
-one_list max bytes first second here there count = same_records max [] first second here.behind there.behind here.lawful there.lawful count (sym here.spelled ∙ there.spelled)
+one_list max bytes first second here there count = same_records max [] first second here.rest there.rest here.lawful there.lawful count (sym here.spelled ∙ there.spelled)
 
 one_replay : (max : ℕ) (bytes : List ℕ) (n : ℕ) (first second : BookState) → IsReplay max bytes n first → IsReplay max bytes n second → first ≡ second
-one_replay max bytes n first second here there = here.is ∙ ap (book_after max) (one_list max bytes here.records there.records here.holds there.holds (here.count ∙ sym there.count)) ∙ sym there.is
+one_replay max bytes n first second here there = here.equals ∙ ap (book_after max) (one_list max bytes here.records there.records here.holds there.holds (here.count ∙ sym there.count)) ∙ sym there.equals
 
 not_both : (max : ℕ) (bytes : List ℕ) (n : ℕ) (book : BookState) (damage : Damage) → IsReplay max bytes n book → IsBookDamage max bytes n damage → ⊥
 not_both max bytes n book damage replay (inl bad) = not_held max bytes bad.k replay.records bad.first replay.holds (omega (arith, bad.within, replay.count))
@@ -82,7 +82,7 @@ one_bad_record max bytes j k first second =
     ]
 
 one_damage : (max : ℕ) (bytes : List ℕ) (n : ℕ) (first second : Damage) → IsBookDamage max bytes n first → IsBookDamage max bytes n second → first ≡ second
-one_damage max bytes n first second (inl a) (inl b) = a.is ∙ ap BadRecord (one_bad_record max bytes a.k b.k a.first b.first) ∙ sym b.is
+one_damage max bytes n first second (inl a) (inl b) = a.equals ∙ ap BadRecord (one_bad_record max bytes a.k b.k a.first b.first) ∙ sym b.equals
 one_damage max bytes n first second (inl a) (inr b) = absurd (not_held max bytes a.k b.records a.first b.holds (omega (arith, a.within, b.count)))
 one_damage max bytes n first second (inr a) (inl b) = absurd (not_held max bytes b.k a.records b.first a.holds (omega (arith, b.within, a.count)))
 one_damage max bytes n first second (inr a) (inr b) =

@@ -37,18 +37,18 @@ book_after_more max records entry =
     ∙ ap (made (sessions_of (records ++ entry ∷ []))) used
 
 pub read_none : (max : ℕ) (bytes : List ℕ) → HasRead max bytes bytes 0 (record { sessions = []; used = 0; max = max })
-read_none max bytes = record { records = []; count = refl; lawful = tt; spelled = refl; is = refl }
+read_none max bytes = record { records = []; count = refl; lawful = tt; spelled = refl; equals = refl }
 
-pub read_more : (max : ℕ) (bytes rest behind : List ℕ) (k : ℕ) (old new : BookState) → HasRead max bytes rest k old → IsNext old new rest behind → HasRead max bytes behind (k + 1) new
-read_more max bytes rest behind k old new read next =
+pub read_more : (max : ℕ) (bytes rest after : List ℕ) (k : ℕ) (old new : BookState) → HasRead max bytes rest k old → IsNext old new rest after → HasRead max bytes after (k + 1) new
+read_more max bytes rest after k old new read next =
     let entry = next.entry in
-    let follows : MayFollow max (sessions_of read.records) entry = subst (λ (book : BookState). MayFollow book.max book.sessions entry) read.is next.follows in
+    let follows : MayFollow max (sessions_of read.records) entry = subst (λ (book : BookState). MayFollow book.max book.sessions entry) read.equals next.follows in
     record {
       records = read.records ++ entry ∷ [];
       count = omega (arith, length-append read.records (entry ∷ []), read.count);
       lawful = lawful_more max [] read.records entry read.lawful next.lawful follows;
-      spelled = read.spelled ∙ ap (λ (t : List ℕ). book_of read.records ++ t) next.spelled ∙ sym (append_assoc (book_of read.records) (spelling_of entry) behind) ∙ ap (λ (t : List ℕ). t ++ behind) (sym (book_of_more read.records entry));
-      is = next.added ∙ ap (λ (book : BookState). with_record book entry) read.is ∙ book_after_more max read.records entry;
+      spelled = read.spelled ∙ ap (λ (t : List ℕ). book_of read.records ++ t) next.spelled ∙ sym (append_assoc (book_of read.records) (spelling_of entry) after) ∙ ap (λ (t : List ℕ). t ++ after) (sym (book_of_more read.records entry));
+      equals = next.added ∙ ap (λ (book : BookState). with_record book entry) read.equals ∙ book_after_more max read.records entry;
     }
 
 pub read_stops : (max : ℕ) (bytes rest : List ℕ) (k n : ℕ) (book : BookState) → HasRead max bytes rest k book → HasNoNext book rest → k < n → IsRecordDamage max bytes n (BadRecord k)
@@ -58,10 +58,10 @@ read_stops max bytes rest k n book read unread lt = record {
   first = record {
     before = read.records;
     count = read.count;
-    holds = record { lawful = read.lawful; behind = rest; spelled = read.spelled };
-    none = λ entry m begins follows. unread entry m begins (subst (λ (book : BookState). MayFollow book.max book.sessions entry) (sym read.is) follows);
+    holds = record { lawful = read.lawful; rest = rest; spelled = read.spelled };
+    none = λ entry m begins follows. unread entry m begins (subst (λ (book : BookState). MayFollow book.max book.sessions entry) (sym read.equals) follows);
   };
-  is = refl;
+  equals = refl;
 }
 
 -- ---- how many records there may be
@@ -79,35 +79,35 @@ record_count max sessions (Drop k ∷ records) lawful =
     let left = drop_leaves sessions k lawful.1.0 in
     omega (arith, record_count max (followed_by sessions (Drop k)) records lawful.1.1, left.count, left.live)
 
-few_sessions : (max : ℕ) (sessions : List Session) (records : List Record) → AreRecords max sessions records → length sessions ≤ MAX_SESSIONS → length (sessions_after sessions records) ≤ MAX_SESSIONS
-few_sessions max sessions [] lawful few = few
-few_sessions max sessions (Ingest entry ∷ records) lawful few =
+sessions_within_limit : (max : ℕ) (sessions : List Session) (records : List Record) → AreRecords max sessions records → length sessions ≤ MAX_SESSIONS → length (sessions_after sessions records) ≤ MAX_SESSIONS
+sessions_within_limit max sessions [] lawful few = few
+sessions_within_limit max sessions (Ingest entry ∷ records) lawful few =
     let next : List Session = record { entry = entry; live = true } ∷ [] in
-    few_sessions max (sessions ++ next) records lawful.1.1 (omega (arith, length-append sessions next, lawful.1.0.few_sessions))
-few_sessions max sessions (Drop k ∷ records) lawful few =
+    sessions_within_limit max (sessions ++ next) records lawful.1.1 (omega (arith, length-append sessions next, lawful.1.0.session_limit))
+sessions_within_limit max sessions (Drop k ∷ records) lawful few =
     let left = drop_leaves sessions k lawful.1.0 in
-    few_sessions max (followed_by sessions (Drop k)) records lawful.1.1 (omega (arith, left.count))
+    sessions_within_limit max (followed_by sessions (Drop k)) records lawful.1.1 (omega (arith, left.count))
 
 pub read_within : (max : ℕ) (bytes rest : List ℕ) (k : ℕ) (book : BookState) → HasRead max bytes rest k book → k ≤ 2 * MAX_SESSIONS
 read_within max bytes rest k book read =
-    let few : length (sessions_of read.records) ≤ MAX_SESSIONS = few_sessions max [] read.records read.lawful (omega arith) in
+    let few : length (sessions_of read.records) ≤ MAX_SESSIONS = sessions_within_limit max [] read.records read.lawful (omega arith) in
     omega (arith, record_count max [] read.records read.lawful, few, read.count)
 
 pub read_done : (max : ℕ) (bytes rest : List ℕ) (n : ℕ) (book : BookState) → HasRead max bytes rest n book → recipe_damage [] 0 book.sessions ≡ None → IsReplay max bytes n book
 read_done max bytes rest n book read none = record {
   records = read.records;
   count = read.count;
-  holds = record { lawful = read.lawful; behind = rest; spelled = read.spelled };
-  recipes = ap (λ (book : BookState). recipe_damage [] 0 book.sessions) (sym read.is) ∙ none;
-  is = read.is;
+  holds = record { lawful = read.lawful; rest = rest; spelled = read.spelled };
+  recipes = ap (λ (book : BookState). recipe_damage [] 0 book.sessions) (sym read.equals) ∙ none;
+  equals = read.equals;
 }
 
 pub read_fails : (max : ℕ) (bytes rest : List ℕ) (n : ℕ) (book : BookState) (damage : Damage) → HasRead max bytes rest n book → recipe_damage [] 0 book.sessions ≡ Some damage → IsRecipeDamage max bytes n damage
 read_fails max bytes rest n book damage read some = record {
   records = read.records;
   count = read.count;
-  holds = record { lawful = read.lawful; behind = rest; spelled = read.spelled };
-  first = ap (λ (book : BookState). recipe_damage [] 0 book.sessions) (sym read.is) ∙ some;
+  holds = record { lawful = read.lawful; rest = rest; spelled = read.spelled };
+  first = ap (λ (book : BookState). recipe_damage [] 0 book.sessions) (sym read.equals) ∙ some;
 }
 
 -- ---- a record that is read
@@ -117,11 +117,11 @@ begins_within bytes entry n begins =
     omega (arith, length-take n bytes, ap length begins.spelled, begins.ends)
 
 pub next_from : (old new : BookState) (bytes rest : List ℕ) (entry : Record) (n : ℕ) → BeginsWith bytes entry n → MayFollow old.max old.sessions entry → rest ≡ drop n bytes → new ≡ with_record old entry → IsNext old new bytes rest
-next_from old new bytes rest entry n begins follows behind added = record {
+next_from old new bytes rest entry n begins follows after added = record {
   entry = entry;
   lawful = begins.lawful;
   follows = follows;
-  spelled = sym (take-append-drop n bytes) ∙ ap (λ (t : List ℕ). t ++ drop n bytes) begins.spelled ∙ ap (λ (t : List ℕ). spelling_of entry ++ t) (sym behind);
+  spelled = sym (take-append-drop n bytes) ∙ ap (λ (t : List ℕ). t ++ drop n bytes) begins.spelled ∙ ap (λ (t : List ℕ). spelling_of entry ++ t) (sym after);
   added = added;
 }
 
@@ -131,19 +131,19 @@ added : (max : ℕ) (bytes rest : List ℕ) (n : ℕ) (book : BookState) (entry 
     → IsReplay max (take book.used bytes ++ (spelling_of entry ++ rest)) (n + 1) (with_record book entry)
 added max bytes rest n book entry replay lawful follows recipes =
     let records = replay.records in
-    let used : book.used ≡ length (book_of records) = ap (λ (book : BookState). book.used) replay.is in
-    let front : take book.used bytes ≡ book_of records = ap (take book.used) replay.holds.spelled ∙ take_at (book_of records) replay.holds.behind book.used (sym used) in
-    let after : with_record book entry ≡ book_after max (records ++ entry ∷ []) = ap (λ (book : BookState). with_record book entry) replay.is ∙ book_after_more max records entry in
+    let used : book.used ≡ length (book_of records) = ap (λ (book : BookState). book.used) replay.equals in
+    let front : take book.used bytes ≡ book_of records = ap (take book.used) replay.holds.spelled ∙ take_at (book_of records) replay.holds.rest book.used (sym used) in
+    let after : with_record book entry ≡ book_after max (records ++ entry ∷ []) = ap (λ (book : BookState). with_record book entry) replay.equals ∙ book_after_more max records entry in
     record {
       records = records ++ entry ∷ [];
       count = omega (arith, length-append records (entry ∷ []), replay.count);
       holds = record {
-        lawful = lawful_more max [] records entry replay.holds.lawful lawful (subst (λ (book : BookState). MayFollow book.max book.sessions entry) replay.is follows);
-        behind = rest;
+        lawful = lawful_more max [] records entry replay.holds.lawful lawful (subst (λ (book : BookState). MayFollow book.max book.sessions entry) replay.equals follows);
+        rest = rest;
         spelled = ap (λ (t : List ℕ). t ++ (spelling_of entry ++ rest)) front ∙ sym (append_assoc (book_of records) (spelling_of entry) rest) ∙ ap (λ (t : List ℕ). t ++ rest) (sym (book_of_more records entry));
       };
       recipes = ap (λ (book : BookState). recipe_damage [] 0 book.sessions) (sym after) ∙ recipes;
-      is = after;
+      equals = after;
     }
 
 pub adding : AddingIsReplaying

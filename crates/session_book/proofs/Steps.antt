@@ -9,7 +9,7 @@ use Rattle.std.proofs.lemmas.Nat.{from_be_bytes-to_be_bytes_4}
 use Rattle.std.proofs.lemmas.Slice.Eq.{bytes_eq-Decides}
 use Rattle.sha2.specs.Sha256.{sha256}
 use Rattle.sha2.proofs.Facts256.{length-sha256}
-use Rattle.sd_base.specs.Records.{number, digested, sealed, kind_of, body_of, spelling_of, IsRecord, BeginsWith, stated_length, IsShort, BeginsWithNone, BeginsSealed}
+use Rattle.sd_base.specs.Records.{u32_bytes, digested, sealed, kind_of, body_of, spelling_of, IsRecord, BeginsWith, stated_length, IsShort, BeginsWithNone, BeginsSealed}
 use Rattle.sd_base.specs.declared.record.Record.{Record}
 use Rattle.session_book.specs.Reading.{◌>>=◌, number_at, bytes_at, record_of, parts_at, whole_or_bad, step_of_body, step_of_parts, step_of}
 use Rattle.session_book.specs.declared.step.Step.{Step}
@@ -18,16 +18,17 @@ use Rattle.session_book.proofs.Fields.{IsBytes, IsBytes-rest, bind_some, some_is
 use Rattle.session_book.proofs.Bodies.{record_takes, record_again, body_is_short}
 
 abbrev Parts : Type 0
-Parts = ℕ × List ℕ × List ℕ × List ℕ
+Parts = ℕ × List ℕ × List ℕ
 
 -- ---- the parts of a record
 
-stated_of : (kind : ℕ) (body behind : List ℕ) → length body < 2 ^ 32 → stated_length (digested kind body ++ behind) ≡ length body
-stated_of kind body behind lt = from_be_bytes-to_be_bytes_4 (length body) lt
+stated_of : (kind : ℕ) (body after : List ℕ) → length body < 2 ^ 32 → stated_length (digested kind body ++ after) ≡ length body
+stated_of kind body after lt = from_be_bytes-to_be_bytes_4 (length body) lt
 
 -- what the parts of bytes are
 pub record AreParts (bytes : List ℕ) (parts : Parts) : Type 0 where
-  pub spelled : bytes ≡ digested parts.0 parts.1 ++ (parts.2 ++ parts.3)
+  pub rest : List ℕ
+  pub spelled : bytes ≡ digested parts.0 parts.1 ++ (parts.2 ++ rest)
   pub body : IsBytes parts.1
   pub small : length parts.1 < 2 ^ 32
   pub digest : length parts.2 ≡ 32
@@ -36,33 +37,34 @@ pub parts_take : (bytes : List ℕ) (parts : Parts) → IsBytes bytes → parts_
 unfolding parts_at
 parts_take [] parts fits e = absurd cc
 parts_take (kind ∷ bytes) parts fits e =
-    let a = bind_some (number_at bytes) (λ size. bytes_at size.0 size.1 >>= λ body. bytes_at 32 body.1 >>= λ digest. Some (kind, body.0, digest.0, digest.1)) parts e in
-    let b = bind_some (bytes_at a.0.0 a.0.1) (λ body. bytes_at 32 body.1 >>= λ digest. Some (kind, body.0, digest.0, digest.1)) parts a.2 in
-    let c = bind_some (bytes_at 32 b.0.1) (λ digest. Some (kind, b.0.0, digest.0, digest.1)) parts b.2 in
-    let made : Parts = (kind, b.0.0, c.0.0, c.0.1) in
+    let a = bind_some (number_at bytes) (λ size. bytes_at size.0 size.1 >>= λ body. bytes_at 32 body.1 >>= λ digest. Some (kind, body.0, digest.0)) parts e in
+    let b = bind_some (bytes_at a.0.0 a.0.1) (λ body. bytes_at 32 body.1 >>= λ digest. Some (kind, body.0, digest.0)) parts a.2 in
+    let c = bind_some (bytes_at 32 b.0.1) (λ digest. Some (kind, b.0.0, digest.0)) parts b.2 in
+    let made : Parts = (kind, b.0.0, c.0.0) in
     let t0 = number_reader.takes bytes a.0 (IsBytes-rest kind bytes fits) a.1 in
     let t1 = bytes_take a.0.0 a.0.1 b.0 t0.0.rest_fits b.1 in
     let t2 = bytes_take 32 b.0.1 c.0 t1.0.rest_fits c.1 in
-    let behind : bytes ≡ number a.0.0 ++ (b.0.0 ++ (c.0.0 ++ c.0.1)) =
-    t0.0.parts ∙ ap (λ (t : List ℕ). number a.0.0 ++ t) (t1.0.parts ∙ ap (λ (t : List ℕ). b.0.0 ++ t) t2.0.parts) in
-    let grouped : bytes ≡ (number (length b.0.0) ++ b.0.0) ++ (c.0.0 ++ c.0.1) =
-    behind ∙ sym (append_assoc (number a.0.0) b.0.0 (c.0.0 ++ c.0.1))
-    ∙ ap (λ (n : ℕ). (number n ++ b.0.0) ++ (c.0.0 ++ c.0.1)) (sym t1.1) in
+    let after : bytes ≡ u32_bytes a.0.0 ++ (b.0.0 ++ (c.0.0 ++ c.0.1)) =
+    t0.0.parts ∙ ap (λ (t : List ℕ). u32_bytes a.0.0 ++ t) (t1.0.parts ∙ ap (λ (t : List ℕ). b.0.0 ++ t) t2.0.parts) in
+    let grouped : bytes ≡ (u32_bytes (length b.0.0) ++ b.0.0) ++ (c.0.0 ++ c.0.1) =
+    after ∙ sym (append_assoc (u32_bytes a.0.0) b.0.0 (c.0.0 ++ c.0.1))
+    ∙ ap (λ (n : ℕ). (u32_bytes n ++ b.0.0) ++ (c.0.0 ++ c.0.1)) (sym t1.1) in
     let small : length b.0.0 < 2 ^ 32 = subst (λ (n : ℕ). n < 2 ^ 32) (sym t1.1) t0.1 in
     subst (AreParts (kind ∷ bytes)) (some_is made parts c.2) (record {
+      rest = c.0.1;
       spelled = ap (λ (t : List ℕ). kind ∷ t) grouped;
       body = t1.2;
       small = small;
       digest = t2.1;
     })
 
-parts_again : (kind : ℕ) (body digest rest : List ℕ) → length body < 2 ^ 32 → length digest ≡ 32 → parts_at (digested kind body ++ (digest ++ rest)) ≡ Some (kind, body, digest, rest)
+parts_again : (kind : ℕ) (body digest rest : List ℕ) → length body < 2 ^ 32 → length digest ≡ 32 → parts_at (digested kind body ++ (digest ++ rest)) ≡ Some (kind, body, digest)
 unfolding parts_at
 parts_again kind body digest rest lt len =
-    ap (λ (t : List ℕ). parts_at (kind ∷ t)) (append_assoc (number (length body)) body (digest ++ rest))
-    ∙ ap (λ (r : Option (ℕ × List ℕ)). r >>= λ size. bytes_at size.0 size.1 >>= λ body. bytes_at 32 body.1 >>= λ digest. Some (kind, body.0, digest.0, digest.1)) (number_reader.again (length body) (body ++ (digest ++ rest)) lt)
-    ∙ ap (λ (r : Option (List ℕ × List ℕ)). r >>= λ body. bytes_at 32 body.1 >>= λ digest. Some (kind, body.0, digest.0, digest.1)) (bytes_again (length body) body (digest ++ rest) refl)
-    ∙ ap (λ (r : Option (List ℕ × List ℕ)). r >>= λ digest. Some (kind, body, digest.0, digest.1)) (bytes_again 32 digest rest len)
+    ap (λ (t : List ℕ). parts_at (kind ∷ t)) (append_assoc (u32_bytes (length body)) body (digest ++ rest))
+    ∙ ap (λ (r : Option (ℕ × List ℕ)). r >>= λ size. bytes_at size.0 size.1 >>= λ body. bytes_at 32 body.1 >>= λ digest. Some (kind, body.0, digest.0)) (number_reader.again (length body) (body ++ (digest ++ rest)) lt)
+    ∙ ap (λ (r : Option (List ℕ × List ℕ)). r >>= λ body. bytes_at 32 body.1 >>= λ digest. Some (kind, body.0, digest.0)) (bytes_again (length body) body (digest ++ rest) refl)
+    ∙ ap (λ (r : Option (List ℕ × List ℕ)). r >>= λ digest. Some (kind, body, digest.0)) (bytes_again 32 digest rest len)
 
 some_or_none : {A : Type 0} (o : Option A) → (o ≡ None) ⊎ ((x : A) × (o ≡ Some x))
 some_or_none None = inl refl
@@ -86,21 +88,21 @@ parts_there (kind ∷ bytes) long all none =
     let n = from_be_bytes w32 (take 4 bytes) in
     let four : 4 ≤ length bytes = omega arith in
     let size : n ≤ length (drop 4 bytes) = omega (arith, length-drop {A = ℕ} 4 bytes) in
-    let behind : 32 ≤ length (drop n (drop 4 bytes)) = omega (arith, length-drop {A = ℕ} 4 bytes, length-drop {A = ℕ} n (drop 4 bytes)) in
-    let parts : Parts = (kind, take n (drop 4 bytes), take 32 (drop n (drop 4 bytes)), drop 32 (drop n (drop 4 bytes))) in
+    let after : 32 ≤ length (drop n (drop 4 bytes)) = omega (arith, length-drop {A = ℕ} 4 bytes, length-drop {A = ℕ} n (drop 4 bytes)) in
+    let parts : Parts = (kind, take n (drop 4 bytes), take 32 (drop n (drop 4 bytes))) in
     let found : parts_at (kind ∷ bytes) ≡ Some parts =
-    ap (λ (r : Option (ℕ × List ℕ)). r >>= λ size. bytes_at size.0 size.1 >>= λ body. bytes_at 32 body.1 >>= λ digest. Some (kind, body.0, digest.0, digest.1)) (number_is bytes four)
-    ∙ ap (λ (r : Option (List ℕ × List ℕ)). r >>= λ body. bytes_at 32 body.1 >>= λ digest. Some (kind, body.0, digest.0, digest.1)) (bytes_are n (drop 4 bytes) size)
-    ∙ ap (λ (r : Option (List ℕ × List ℕ)). r >>= λ digest. Some (kind, take n (drop 4 bytes), digest.0, digest.1)) (bytes_are 32 (drop n (drop 4 bytes)) behind) in
+    ap (λ (r : Option (ℕ × List ℕ)). r >>= λ size. bytes_at size.0 size.1 >>= λ body. bytes_at 32 body.1 >>= λ digest. Some (kind, body.0, digest.0)) (number_is bytes four)
+    ∙ ap (λ (r : Option (List ℕ × List ℕ)). r >>= λ body. bytes_at 32 body.1 >>= λ digest. Some (kind, body.0, digest.0)) (bytes_are n (drop 4 bytes) size)
+    ∙ ap (λ (r : Option (List ℕ × List ℕ)). r >>= λ digest. Some (kind, take n (drop 4 bytes), digest.0)) (bytes_are 32 (drop n (drop 4 bytes)) after) in
     not_both (parts_at (kind ∷ bytes)) parts found none
 
 -- bytes with parts are not short
 parts_long : (bytes : List ℕ) (parts : Parts) → AreParts bytes parts → IsShort bytes → ⊥
 parts_long bytes parts are short =
-    let size : length bytes ≡ 5 + length parts.1 + (32 + length parts.3) =
-    ap length are.spelled ∙ omega (arith, length-append (digested parts.0 parts.1) (parts.2 ++ parts.3), length-append (number (length parts.1)) parts.1, length-append parts.2 parts.3, are.digest) in
+    let size : length bytes ≡ 5 + length parts.1 + (32 + length are.rest) =
+    ap length are.spelled ∙ omega (arith, length-append (digested parts.0 parts.1) (parts.2 ++ are.rest), length-append (u32_bytes (length parts.1)) parts.1, length-append parts.2 are.rest, are.digest) in
     let stated : stated_length bytes ≡ length parts.1 =
-    ap stated_length are.spelled ∙ stated_of parts.0 parts.1 (parts.2 ++ parts.3) are.small in
+    ap stated_length are.spelled ∙ stated_of parts.0 parts.1 (parts.2 ++ are.rest) are.small in
     elim short [ inl few ↦ omega arith | inr fewer ↦ omega arith ]
 
 pub short_is_no_parts : (bytes : List ℕ) → IsBytes bytes → (parts_at bytes ≡ None) ↔ IsShort bytes
@@ -127,9 +129,9 @@ sealed_front bytes parts fits found e =
     record {
       kind = parts.0;
       body = parts.1;
-      rest = parts.3;
+      rest = are.rest;
       small = are.small;
-      spelled = are.spelled ∙ sym (append_assoc text parts.2 parts.3) ∙ ap (λ (t : List ℕ). (text ++ t) ++ parts.3) (sym same);
+      spelled = are.spelled ∙ sym (append_assoc text parts.2 are.rest) ∙ ap (λ (t : List ℕ). (text ++ t) ++ are.rest) (sym same);
     }
 
 -- ---- the step
@@ -149,7 +151,7 @@ pub length_spelling : (entry : Record) → length (spelling_of entry) ≡ 37 + l
 unfolding spelling_of
 length_spelling entry =
     let text = digested (kind_of entry) (body_of entry) in
-    omega (arith, length-append text (sha256 text), length-sha256 text, length-append (number (length (body_of entry))) (body_of entry))
+    omega (arith, length-append text (sha256 text), length-sha256 text, length-append (u32_bytes (length (body_of entry))) (body_of entry))
 
 pub begins_from_rest : (bytes : List ℕ) (entry : Record) (rest : List ℕ) (k : ℕ) → IsRecord entry → k ≡ length (spelling_of entry) → bytes ≡ spelling_of entry ++ rest → BeginsWith bytes entry k
 begins_from_rest bytes entry rest k lawful ends spelled = record {
@@ -166,9 +168,9 @@ step_of_parts_begins bytes parts entry k are e =
     let same : sha256 text ≡ parts.2 = (bytes_eq-Decides (sha256 text) parts.2).0 g.0 in
     let is = record_takes parts.0 parts.1 entry are.body g.1 in
     let text_is : text ≡ digested (kind_of entry) (body_of entry) = ap (λ (kind : ℕ). digested kind parts.1) is.kind_is ∙ ap (digested (kind_of entry)) is.body_is in
-    let spelled : bytes ≡ spelling_of entry ++ parts.3 =
-    are.spelled ∙ sym (append_assoc text parts.2 parts.3) ∙ ap (λ (t : List ℕ). (text ++ t) ++ parts.3) (sym same) ∙ ap (λ (t : List ℕ). sealed t ++ parts.3) text_is in
-    begins_from_rest bytes entry parts.3 k is.lawful (g.2 ∙ ap (λ (t : List ℕ). 37 + length t) is.body_is ∙ sym (length_spelling entry)) spelled
+    let spelled : bytes ≡ spelling_of entry ++ are.rest =
+    are.spelled ∙ sym (append_assoc text parts.2 are.rest) ∙ ap (λ (t : List ℕ). (text ++ t) ++ are.rest) (sym same) ∙ ap (λ (t : List ℕ). sealed t ++ are.rest) text_is in
+    begins_from_rest bytes entry are.rest k is.lawful (g.2 ∙ ap (λ (t : List ℕ). 37 + length t) is.body_is ∙ sym (length_spelling entry)) spelled
 
 -- what is spelled is read, whatever follows
 pub step_again : (entry : Record) (rest : List ℕ) → IsRecord entry → step_of (spelling_of entry ++ rest) ≡ Whole entry (length (spelling_of entry))

@@ -27,9 +27,9 @@ pub record IsNext (old new : BookState) (bytes rest : List ℕ) : Type 0 where
 abbrev pub HasNoNext : BookState → List ℕ → Type 0
 HasNoNext book bytes = (entry : Record) (n : ℕ) → BeginsWith bytes entry n → MayFollow book.max book.sessions entry → ⊥
 
-abbrev pub Takes : BookState → BookState → List ℕ → Option (List ℕ) → Type 0
-Takes old new bytes None = HasNoNext old bytes
-Takes old new bytes (Some rest) = IsNext old new bytes rest
+abbrev pub TakesRecord : BookState → BookState → List ℕ → Option (List ℕ) → Type 0
+TakesRecord old new bytes None = HasNoNext old bytes
+TakesRecord old new bytes (Some rest) = IsNext old new bytes rest
 
 -- the book of the first k records, and the bytes behind them
 pub record HasRead (max : ℕ) (bytes rest : List ℕ) (k : ℕ) (book : BookState) : Type 0 where
@@ -37,7 +37,7 @@ pub record HasRead (max : ℕ) (bytes rest : List ℕ) (k : ℕ) (book : BookSta
   pub count : length records ≡ k
   pub lawful : AreRecords max [] records
   pub spelled : bytes ≡ book_of records ++ rest
-  pub is : book ≡ book_after max records
+  pub equals : book ≡ book_after max records
 
 abbrev pub IsBadRecord : ℕ → List ℕ → ℕ → BookFault → Type 0
 IsBadRecord max bytes n (Damaged damage) = IsRecordDamage max bytes n damage

@@ -7,7 +7,7 @@ ghost use Rattle.sd_base.specs.Books.{BookState, chunks_in, places_in, is_live, 
 
 use crate::lengths::DROP_LEN;
 use crate::recipes::first_damage;
-use crate::writing::ingest_len;
+use crate::record_writer::ingest_len;
 use sd_base::{
     Damage, IngestRecord, MAX_CHUNKS, MAX_PLACES, MAX_SESSIONS, Name, NewChunk, OutOfMemory,
     Record, Session,
@@ -16,8 +16,8 @@ use std::alloc::Global;
 use std::collections::BTreeMap;
 use std::marker::Model;
 
-/// The sessions of a store and its chunks, as its records say: contracts see the sessions, the length of the records
-/// and the longest chunk that may stand in them. Defined by this project.
+/// The sessions of a store and its chunks, as its records say. Contracts see the sessions, the length of the records in
+/// bytes, and the greatest length of a chunk that they may have.
 #[derive(Debug, Drop)]
 pub struct Book {
     sessions: Vec<Session>,
@@ -56,19 +56,18 @@ impl Book {
         }
     }
 
-    /// Adds a record that may follow those of the book. It is refused for want of memory alone, and the book is then as
-    /// it was.
+    /// Adds a record that may follow those of the book. It fails only if memory runs out, and the book is then unchanged.
     pub fn add(&mut self, entry: Record) -> Result<(), OutOfMemory>
         requires spelled { IsWithinLimits entry }
         requires follows { MayFollow self.old.max self.old.sessions entry }
         ensures added { OnOk result (self.new ≡ with_record self.old entry) }
         ensures unchanged { OnErr result (self.new ≡ self.old) }
 
-        // It is the book that a replay with this record more gives, where none of its recipes fails.
+        // The new book is the replay of the old records and this one, if no recipe of it fails.
         ensures lawful { IsRecord entry }
         ensures replayed { OnOk result (IsReplayedOn self.old entry self.new) }
 
-        // A drop is never refused.
+        // A drop never fails.
         ensures drops { (session : ℕ) → entry ≡ Record.Drop session → IsOk result }
     {
         match entry {
@@ -92,7 +91,7 @@ impl Book {
         let places = entry.recipe.as_slice().len() as u32;
         let session = self.sessions.len() as u32;
 
-        // With room for the chunks and the session, only the name can still be refused.
+        // Once there is room for the chunks and the session, only the insertion of the name can still fail.
         self.chunks.reserve(entry.fresh.as_slice().len())?;
         self.sessions.reserve(1)?;
         self.by_name.insert(entry.name, session)?;
@@ -134,7 +133,7 @@ impl Book {
             && are_short(entry.fresh.as_slice(), self.max)
     }
 
-    // Whether an ingest keeps the book in its limits.
+    // Whether an ingest keeps the book within its limits.
     fn has_room(&self, entry: &IngestRecord) -> bool
         ensures { IsTrue result ↔ HasRoom self.now.sessions entry.now }
     {
@@ -150,27 +149,23 @@ impl Book {
         first_damage(&self.sessions, &self.chunks)
     }
 
-    /// Whether the session of a number is there and is live.
+    /// Whether the session of a number exists and is live.
     pub fn live(&self, session: u32) -> bool
         ensures { result ≡ is_live self.now.sessions session }
     {
-        match self.sessions.as_slice().get(session as usize) {
-            Some(session) => session.live,
-            None => false,
-        }
+        let session = self.sessions.as_slice().get(session as usize);
+        session.is_some_and(|session| session.live)
     }
 
-    /// What the ingest of a session holds, live or dropped. There is none exactly where no session has the number.
+    /// The ingest of a session, live or dropped. There is none exactly if no session has the number.
     pub fn session(&self, session: u32) -> Option<&IngestRecord>
         ensures { option_copied result ≡ option_map (λ session. session.entry) (slice_get self.now.sessions session) }
     {
-        match self.sessions.as_slice().get(session as usize) {
-            Some(session) => Some(&session.entry),
-            None => None,
-        }
+        let session = self.sessions.as_slice().get(session as usize);
+        session.map(|session| &session.entry)
     }
 
-    /// The live session of a name. There is none exactly where no live session has the name.
+    /// The live session of a name. There is none exactly if no live session has the name.
     #[tactic(auto, using(crate::proofs::ByName::find_by_name))]
     pub fn find(&self, name: &Name) -> Option<u32>
         ensures { result ≡ live_session self.now.sessions name.now }
@@ -199,7 +194,7 @@ impl Book {
         self.places
     }
 
-    /// The length of the records.
+    /// The length of the records, in bytes.
     pub fn used(&self) -> u64
         ensures { result ≡ self.now.used }
     {

@@ -8,9 +8,9 @@ use sd_base::{Damage, IngestRecord, MAX_CHUNKS, MAX_PLACES, MAX_SESSIONS, NewChu
 // The first recipe that fails.
 pub fn first_damage(sessions: &[Session], chunks: &[NewChunk]) -> Option<Damage>
     requires chunks { chunks.now ≡ chunks_in sessions.now }
-    requires few { length chunks.now ≤ MAX_CHUNKS }
-    requires places { places_in sessions.now ≤ MAX_PLACES }
-    requires sessions { length sessions.now ≤ MAX_SESSIONS }
+    requires chunk_limit { length chunks.now ≤ MAX_CHUNKS }
+    requires place_limit { places_in sessions.now ≤ MAX_PLACES }
+    requires session_limit { length sessions.now ≤ MAX_SESSIONS }
     ensures { result ≡ recipe_damage [] 0 sessions.now }
 {
     let mut count = 0;
@@ -26,7 +26,7 @@ pub fn first_damage(sessions: &[Session], chunks: &[NewChunk]) -> Option<Damage>
     None
 }
 
-// The place where a recipe fails.
+// The place at which a recipe fails.
 fn flaw_place(chunks: &[NewChunk], entry: &IngestRecord) -> Option<u32>
     requires { length entry.now.recipe ≤ MAX_PLACES }
     ensures { result ≡ recipe_flaw chunks.now entry.now }
@@ -49,24 +49,17 @@ fn unnamed_place(chunks: &[NewChunk], entries: &[u32]) -> Option<usize>
     entries.iter().position(|n| chunks.len() <= *n as usize)
 }
 
-// The bytes of the chunks that entries name.
+// The sum of the lengths of the chunks that entries name.
 fn named_len(chunks: &[NewChunk], entries: &[u32]) -> u64
     requires { length entries.now ≤ MAX_PLACES }
     ensures { result ≡ bytes_named chunks.now entries.now }
 {
-    let mut size = 0;
-    for n in entries {
-        size += chunk_len(chunks, *n) as u64;
-    }
-    size
+    entries.iter().map(|n| chunk_len(chunks, *n) as u64).sum()
 }
 
-// The bytes of the chunk of a number, or 0 where there is none.
+// The length of the chunk of a number, or 0 if there is none.
 fn chunk_len(chunks: &[NewChunk], n: u32) -> u32
     ensures { result ≡ (slice_index_or chunks.now n (record { length = 0; name = [] })).length }
 {
-    match chunks.get(n as usize) {
-        Some(chunk) => chunk.length,
-        None => 0,
-    }
+    chunks.get(n as usize).map_or(0, |chunk| chunk.length)
 }

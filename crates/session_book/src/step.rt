@@ -5,33 +5,33 @@ ghost use Rattle.sha2.specs.Sha256.{sha256};
 ghost use Rattle.sd_base.specs.Records.{digested, spelling_of, IsRecord, IsShort, BeginsWith, BeginsWithNone, BeginsSealed};
 ghost use Rattle.session_book.specs.Reading.{parts_at, step_of_body, step_of};
 
-use crate::lengths::{AROUND_BODY, DIGEST_LEN};
-use crate::reading::{Stop, record_in, split_front, split_number};
-use sd_base::{OutOfMemory, Record};
+use crate::record_reader::{Stop, read_record, split_bytes, split_number};
+use sd_base::{AROUND_BODY, DIGEST_LEN, OutOfMemory, Record};
 use sha2::{Digest, Sha256};
 use std::alloc::Global;
 
-/// What stands at the front of a book. Defined by this project.
+/// What stands at the front of a book.
 #[derive(Debug, Drop)]
 pub enum Step {
     /// A record, and how many bytes spell it.
     Whole(Record, u32),
-    /// Fewer bytes than the record that they begin has.
+    /// Fewer bytes than the record has that they begin.
     Short,
-    /// As many bytes, and no record of the grammar.
+    /// Enough bytes, but no record of the grammar.
     Bad,
 }
 
-/// The record at the front of bytes. It is refused for want of memory alone, and takes none for what the bytes do not
-/// hold: what they state is looked at once they are there.
+/// The record at the front of bytes. It fails only if memory runs out, and only after the digest of the record was found
+/// right. A list gets room for no more items than the bytes can hold, whatever count they state: contracts see a list
+/// as its items, so the clause `room` of the private readers says this.
 pub fn next_record(alloc: Global, bytes: &[u8]) -> Result<Step, OutOfMemory>
-    // A record is found exactly where the first bytes are its spelling.
+    // A record is found exactly if the first bytes are its spelling.
     ensures whole { IfOk result (λ step. (entry : Record) (k : ℕ) →
         (step ≡ Step.Whole entry k) ↔ BeginsWith bytes.now entry k) }
     ensures short { IfOk result (λ step. (step ≡ Step.Short) ↔ IsShort bytes.now) }
     ensures bad { IfOk result (λ step. (step ≡ Step.Bad) ↔ BeginsWithNone bytes.now) }
 
-    // Short bytes are never refused, and others only where a body stands at their front under its own digest.
+    // Short bytes never fail. Others fail only if they begin with a kind, a body and their digest.
     ensures at_once { IsShort bytes.now → result ≡ Ok Step.Short }
     ensures sealed { OnErr result (BeginsSealed bytes.now) }
 
@@ -42,7 +42,7 @@ pub fn next_record(alloc: Global, bytes: &[u8]) -> Result<Step, OutOfMemory>
     front_step(alloc, bytes)
 }
 
-// The step of bytes, as reading from left to right gives it.
+// The step of bytes, read from left to right.
 #[tactic(auto, unfolding(crate::specs::Reading::step_of))]
 fn front_step(alloc: Global, bytes: &[u8]) -> Result<Step, OutOfMemory>
     ensures step { IfOk result (λ step. step ≡ step_of bytes.now) }
@@ -51,22 +51,22 @@ fn front_step(alloc: Global, bytes: &[u8]) -> Result<Step, OutOfMemory>
 {
     match parts(bytes) {
         None => Ok(Step::Short),
-        Some((kind, body, digest, _)) => body_step(alloc, kind, body, digest),
+        Some((kind, body, digest)) => body_step(alloc, kind, body, digest),
     }
 }
 
-// The kind, the body and the digest of the record that bytes begin, and what stands behind it.
+// The kind, the body and the digest of the record that bytes begin.
 #[tactic(auto, unfolding(crate::specs::Reading::parts_at))]
-fn parts(bytes: &[u8]) -> Option<(u8, &[u8], &[u8], &[u8])>
-    ensures { option_map (λ x. (x.0, x.1.now, x.2.now, x.3.now)) result ≡ parts_at bytes.now }
+fn parts(bytes: &[u8]) -> Option<(u8, &[u8], &[u8])>
+    ensures { option_map (λ x. (x.0, x.1.now, x.2.now)) result ≡ parts_at bytes.now }
 {
     match bytes {
         [] => None,
         [kind, rest @ ..] => {
             let (size, rest) = split_number(rest)?;
-            let (body, rest) = split_front(rest, size as usize)?;
-            let (digest, rest) = split_front(rest, DIGEST_LEN)?;
-            Some((*kind, body, digest, rest))
+            let (body, rest) = split_bytes(rest, size as usize)?;
+            let (digest, _) = split_bytes(rest, DIGEST_LEN)?;
+            Some((*kind, body, digest))
         }
     }
 }
@@ -80,7 +80,7 @@ fn body_step(alloc: Global, kind: u8, body: &[u8], digest: &[u8]) -> Result<Step
     if !is_digest(kind, body, digest) {
         return Ok(Step::Bad);
     }
-    match record_in(alloc, kind, body) {
+    match read_record(alloc, kind, body) {
         Ok(entry) => Ok(Step::Whole(entry, AROUND_BODY + body.len() as u32)),
         Err(Stop::Unspelled) => Ok(Step::Bad),
         Err(Stop::Memory) => Err(OutOfMemory),

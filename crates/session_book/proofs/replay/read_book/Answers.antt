@@ -12,5 +12,5 @@ returns-in-Ok-None c =
 
 pub loop-k-preserved : goal.loop-k-preserved
 loop-k-preserved c =
-    read_more c.args.max c.args.bytes.now c.loop-k.rest.now c.in-Ok-Some.behind.now c.loop-k.k c.loop-k.book c.take_record.new.book c.loop-k.invariant
+    read_more c.args.max c.args.bytes.now c.loop-k.rest.now c.in-Ok-Some.after.now c.loop-k.k c.loop-k.book c.take_record.new.book c.loop-k.invariant
     (rw c.in-Ok-Some.field-0-is at c.in-Ok-Some.ensures)

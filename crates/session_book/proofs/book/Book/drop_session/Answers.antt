@@ -21,9 +21,9 @@ invariant_of-self c =
       by_name = subst (IsByName c.remove.new.self) (sym marked) (index_dropped c.self.inside.by_name c.remove.new.self old c.args.session c.index.result.now.entry.name c.self.invariant.by_name named c.remove.ensures.updates);
       chunks = c.self.invariant.chunks ∙ sym (ap chunks_in marked ∙ left.chunks);
       places = c.self.invariant.places ∙ sym (ap places_in marked ∙ left.places);
-      few_sessions = omega (arith, count, c.self.invariant.few_sessions);
-      few_places = c.self.invariant.few_places;
-      few_chunks = c.self.invariant.few_chunks;
+      session_limit = omega (arith, count, c.self.invariant.session_limit);
+      place_limit = c.self.invariant.place_limit;
+      chunk_limit = c.self.invariant.chunk_limit;
       short = omega (arith, count, alive, c.self.invariant.short);
     }
 

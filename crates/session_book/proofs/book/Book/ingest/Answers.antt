@@ -16,17 +16,17 @@ invariant_of-self-2 c =
     let added = push_adds old session in
     let follows : MayIngest c.self.inside.max old c.args.entry = rw (← c.self.view_is) at c.requires.follows in
     let count : length c.push.new.self.items ≡ length old + 1 = ap length all ∙ added.count in
-    let number : c.len-session.result ≡ length old = search rules in
+    let place : c.len-session.result ≡ length old = search rules in
     let chunks : c.extend_from_slice.new.self.items ≡ chunks_in old ++ c.args.entry.fresh =
     c.in_ok-extend_from_slice.ensures.items
     ∙ ap (λ (xs : List NewChunk). xs ++ c.as_slice-3.result.now) (c.reserve.ensures.items ∙ c.self.invariant.chunks)
     ∙ ap (λ (xs : List NewChunk). chunks_in old ++ xs) c.as_slice-3.ensures in
     record {
-      by_name = subst (IsByName c.insert.new.self) (sym all) (index_pushed c.self.inside.by_name c.insert.new.self old c.args.entry c.self.invariant.by_name follows.free_name (subst (λ n. Updates name_cmp c.self.inside.by_name c.insert.new.self c.args.entry.name (Some n)) number c.in_ok-insert.ensures.updates));
+      by_name = subst (IsByName c.insert.new.self) (sym all) (index_pushed c.self.inside.by_name c.insert.new.self old c.args.entry c.self.invariant.by_name follows.free_name (subst (λ n. Updates name_cmp c.self.inside.by_name c.insert.new.self c.args.entry.name (Some n)) place c.in_ok-insert.ensures.updates));
       chunks = chunks ∙ sym (ap chunks_in all ∙ added.chunks);
       places = omega (arith, c.self.invariant.places, ap places_in all, added.places, ap length c.as_slice.ensures);
-      few_sessions = omega (arith, count, follows.few_sessions);
-      few_places = omega (arith, c.self.invariant.places, ap length c.as_slice.ensures, follows.few_places);
-      few_chunks = omega (arith, ap length chunks, length-append (chunks_in old) c.args.entry.fresh, follows.few_chunks);
+      session_limit = omega (arith, count, follows.session_limit);
+      place_limit = omega (arith, c.self.invariant.places, ap length c.as_slice.ensures, follows.place_limit);
+      chunk_limit = omega (arith, ap length chunks, length-append (chunks_in old) c.args.entry.fresh, follows.chunk_limit);
       short = omega (arith, count, ap live_count all, added.live, c.self.invariant.short, c.ingest_len-size.ensures.small);
     }
