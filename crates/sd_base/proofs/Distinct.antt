@@ -14,7 +14,6 @@ not_among-nothing : (chunks : List (List ℕ)) → not_among [] chunks ≡ chunk
 not_among-nothing [] = refl
 not_among-nothing (chunk ∷ chunks) = ap (λ rest. chunk ∷ rest) (not_among-nothing chunks)
 
-
 -- chunks that are among neither one chunk nor others are among neither together
 not_among-both : (chunk : List ℕ) (others chunks : List (List ℕ)) →
     not_among (chunk ∷ []) (not_among others chunks) ≡ not_among (chunk ∷ others) chunks
@@ -25,11 +24,11 @@ not_among-both chunk others (first ∷ chunks) =
       | inl among ↦ elim (cases_Bool (bytes_eq first chunk)) [
         | inl same ↦ rw (among, same) more
         | inr other ↦ rw (among, other) more
-        ]
+      ]
       | inr alone ↦ elim (cases_Bool (bytes_eq first chunk)) [
         | inl same ↦ rw (alone, same) more
         | inr other ↦ rw (alone, other) (ap (λ rest. first ∷ rest) more)
-        ]
+      ]
     ]
 
 pub distinct-append : (xs ys : List (List ℕ)) → distinct (xs ++ ys) ≡ distinct xs ++ not_among xs (distinct ys)
@@ -54,7 +53,7 @@ is_among-distinct (first ∷ chunks) chunk =
       | inl same ↦ rw same refl
       | inr other ↦
           let kept : is_among (not_among (first ∷ []) (distinct chunks)) chunk ≡ is_among (distinct chunks) chunk =
-              any-filter_same (bytes_eq chunk) (λ d. not (is_among (first ∷ []) d)) true (others_are_kept first chunk other) (distinct chunks)
+          any-filter_same (bytes_eq chunk) (λ d. not (is_among (first ∷ []) d)) true (others_are_kept first chunk other) (distinct chunks)
           in rw (other, kept) (is_among-distinct chunks chunk)
     ]
 
@@ -78,7 +77,7 @@ unequal_too xs ys other = elim (cases_Bool (bytes_eq ys xs)) [
       let clash : false ≡ true = sym other ∙ (bytes_eq-Decides xs ys).1 (sym ((bytes_eq-Decides ys xs).0 same)) in
       absurd cc
   | inr unequal ↦ unequal
-  ]
+]
 
 -- what is not among chunks is not among fewer of them
 not_among-fewer : (others chunks : List (List ℕ)) (chunk : List ℕ) → is_among chunks chunk ≡ false → is_among (not_among others chunks) chunk ≡ false
@@ -96,7 +95,7 @@ none_left chunk [] = refl
 none_left chunk (first ∷ chunks) = elim (cases_Bool (bytes_eq first chunk)) [
   | inl same ↦ rw same (none_left chunk chunks)
   | inr other ↦ rw other (rw (unequal_too first chunk other) (none_left chunk chunks))
-  ]
+]
 
 -- a filter leaves different chunks different
 different-not_among : (others chunks : List (List ℕ)) → AreDifferent chunks → AreDifferent (not_among others chunks)
@@ -104,7 +103,7 @@ different-not_among others [] different = tt
 different-not_among others (chunk ∷ chunks) different = elim (cases_Bool (is_among others chunk)) [
   | inl among ↦ rw among (different-not_among others chunks different.1)
   | inr alone ↦ rw alone (not_among-fewer others chunks chunk different.0, different-not_among others chunks different.1)
-  ]
+]
 
 pub distinct-different : (chunks : List (List ℕ)) → AreDifferent (distinct chunks)
 distinct-different [] = tt

@@ -27,7 +27,7 @@ other_part : (g h : ℕ) (part : List ℕ) → g ≢ h → (if g == h then part 
 other_part g h part other = elim (cases_Bool (g == h)) [
   | inl same ↦ absurd (other ((Decides-eqb g h).0 same))
   | inr different ↦ rw different refl
-  ]
+]
 
 pub holds-files_of : (name_of : List ℕ → List ℕ) (state : State) → HoldState name_of (files_of name_of state) state
 holds-files_of name_of state = record {
@@ -35,9 +35,11 @@ holds-files_of name_of state = record {
   generation = omega (arith, length-replicate {A = ℕ} (1 + state.generation) MARK_BYTE);
   seal = ap length (chosen state.generation (replicate (length state.events) MARK_BYTE) []) ∙ length-replicate (length state.events) MARK_BYTE;
   book = ([], chosen state.generation (book_of (records_of name_of state)) [] ∙ sym (append-nil (book_of (records_of name_of state))));
-  containers = λ k within.
-      ([], chosen state.generation (slice_index_or (packing (stored_chunks state)) k []) []
-      ∙ sym (append-nil (slice_index_or (packing (stored_chunks state)) k [])));
+  containers = λ k within. (
+    [],
+    chosen state.generation (slice_index_or (packing (stored_chunks state)) k []) []
+        ∙ sym (append-nil (slice_index_or (packing (stored_chunks state)) k [])),
+  );
 }
 
 pub alone-files_of : (name_of : List ℕ → List ℕ) (state : State) (file : File) → HasCommittedAlone name_of state file (files_of name_of state file)

@@ -43,7 +43,7 @@ later_too : (c chunk : List ℕ) (chunks : List (List ℕ)) → is_among chunks 
 later_too c chunk chunks later = elim (cases_Bool (bytes_eq c chunk)) [
   | inl same ↦ rw same refl
   | inr other ↦ rw other later
-  ]
+]
 
 among_first : (c : List ℕ) (xs ys : List (List ℕ)) → is_among xs c ≡ true → is_among (xs ++ ys) c ≡ true
 among_first c xs ys here = list_any-append (bytes_eq c) xs ys ∙ rw here refl
@@ -52,7 +52,7 @@ among_second : (c : List ℕ) (xs ys : List (List ℕ)) → is_among ys c ≡ tr
 among_second c xs ys here = list_any-append (bytes_eq c) xs ys ∙ (elim (cases_Bool (is_among xs c)) [
   | inl first ↦ rw first refl
   | inr none ↦ rw (none, here) refl
-  ])
+])
 
 -- numbers of chunks that are stored stay if more chunks are stored
 recipe-stays : (stored new chunks : List (List ℕ)) → ((chunk : List ℕ) → is_among chunks chunk ≡ true → is_among stored chunk ≡ true) →
@@ -61,7 +61,6 @@ recipe-stays stored new [] among = refl
 recipe-stays stored new (chunk ∷ chunks) among =
     rw (first_index-append stored new chunk (among chunk (own chunk chunks)))
     (ap (λ ns. first_index stored chunk ∷ ns) (recipe-stays stored new chunks (λ c later. among c (later_too c chunk chunks later))))
-
 
 -- the records of events stay if more chunks are stored
 records_from-stays : (name_of : List ℕ → List ℕ) (stored new before : List (List ℕ)) (events : List Event) →
@@ -85,8 +84,8 @@ pub records_of-followed : (name_of : List ℕ → List ℕ) (state : State) (eve
 records_of-followed name_of state event =
     records_from-append name_of (stored_chunks (followed_by_event state event)) [] state.events (event ∷ [])
     ∙ ap (λ records. records ++ records_from name_of (stored_chunks (followed_by_event state event)) (placed_chunks state.events) (event ∷ []))
-      (ap (λ stored. records_from name_of stored [] state.events) (stored_chunks-followed state event)
-      ∙ records_from-stays name_of (stored_chunks state) (not_among (placed_chunks state.events) (distinct (placed_chunks (event ∷ [])))) [] state.events (placed-stored state))
+    (ap (λ stored. records_from name_of stored [] state.events) (stored_chunks-followed state event)
+    ∙ records_from-stays name_of (stored_chunks state) (not_among (placed_chunks state.events) (distinct (placed_chunks (event ∷ [])))) [] state.events (placed-stored state))
 
 -- one more event is one more record
 pub one_record_more : (name_of : List ℕ → List ℕ) (state : State) (event : Event) →

@@ -277,10 +277,10 @@ unfolding spelling_of sha256 digest_bytes hash_after compress rounds schedule fi
 spelling_of-drop_0 = refl
 
 -- two chunks of 64 and 8 bytes, and sessions that have them
-abbrev two_chunks : List NewChunk
+abbrev pub two_chunks : List NewChunk
 two_chunks = record { length = 64; name = replicate 32 1 } ∷ record { length = 8; name = replicate 32 2 } ∷ []
 
-abbrev session_of : List NewChunk → ℕ → List ℕ → IngestRecord
+abbrev pub session_of : List NewChunk → ℕ → List ℕ → IngestRecord
 session_of fresh size recipe = record { name = codes "a"; length = size; fresh = fresh; recipe = recipe }
 
 -- an ingest of 200 bytes as `a`, of two new chunks in four places: up to and with the length of the

@@ -21,8 +21,8 @@ mod out_of_memory;
 mod outcome;
 mod params;
 mod raw_params;
-mod state_laws;
 mod record;
+mod state_laws;
 mod words;
 
 pub use damage::Damage;
@@ -33,9 +33,9 @@ pub use laws::{
 };
 pub use limits::{
     CONTAINER_HEADER, DEFAULT_BITS, DEFAULT_MAX, DEFAULT_MIN, DEFAULT_POLYNOMIAL, DEFAULT_SEGMENT,
-    DEFAULT_TARGET, DEFAULT_WORKERS, FORMAT_VERSION, MAX_BITS, MAX_CHUNK_LEN, MAX_CHUNKS, MAX_CONTAINER,
-    MAX_GENERATION, MAX_INPUT, MAX_NAME, MAX_PLACES, MAX_SESSIONS, METHOD_RABIN, MIN_CHUNK_LEN,
-    MIN_POLYNOMIAL, OPEN_HEAD, SETTINGS_LEN, WINDOW,
+    DEFAULT_TARGET, DEFAULT_WORKERS, FORMAT_VERSION, MAX_BITS, MAX_CHUNK_LEN, MAX_CHUNKS,
+    MAX_CONTAINER, MAX_GENERATION, MAX_INPUT, MAX_NAME, MAX_PLACES, MAX_SESSIONS, METHOD_RABIN,
+    MIN_CHUNK_LEN, MIN_POLYNOMIAL, OPEN_HEAD, SETTINGS_LEN, WINDOW,
 };
 pub use name::{BadName, Name};
 pub use out_of_memory::OutOfMemory;
@@ -46,5 +46,8 @@ pub use record::{
     AROUND_BODY, DIGEST_LEN, DROP_KIND, INGEST_KIND, IngestRecord, Items, NUMBER_LEN, NewChunk,
     NewChunks, Recipe, Record, Session,
 };
-pub use state_laws::{container_sizes_are_by_lengths, distinct_chunks_are_each_once, each_state_has_its_files, stores_only_grow};
+pub use state_laws::{
+    container_sizes_are_by_lengths, distinct_chunks_are_each_once, each_state_has_its_files,
+    stores_only_grow,
+};
 pub use words::{BadKind, BadWords, Command, Quiet};
