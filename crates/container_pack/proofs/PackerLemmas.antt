@@ -5,8 +5,8 @@ use Rattle.std.proofs.lemmas.Bool.{cases_eq}
 use Rattle.std.proofs.lemmas.List.{get_or_default, get_or_past, append-nil, length_push, map_push}
 use Rattle.std.proofs.lemmas.List.Elements.{All-push}
 use Rattle.sd_base.specs.Packing.{header_of, packing}
-use Rattle.edge_traits.specs.declared.shelf.File.{File}
-use Rattle.edge_traits.specs.declared.shelf.File.TheVariants.{Container}
+use Rattle.sd_base.specs.declared.file.File.{File}
+use Rattle.sd_base.specs.declared.file.File.TheVariants.{Container}
 use Rattle.edge_traits.specs.Shelf.{content, ChangesOnly}
 use Rattle.container_pack.specs.declared.packer.Packer.{Packer}
 use Rattle.container_pack.specs.declared.spot.Spot.{Spot}

@@ -1,8 +1,8 @@
 -- What a call of a shelf does to a file whose front is known.
 use Rattle.std.proofs.Common.{◌≡◌, ⊎_elim, ℕ, List, [], ◌++◌, length, take, drop, sym, ap, ◌∙◌, refl, subst, append_assoc}
 use Rattle.std.specs.Prelude.{Option, Some, None, option_map, IfSome, Result, Ok, Err, OnErr, IsErrOf}
-use Rattle.edge_traits.specs.declared.shelf.File.{File}
-use Rattle.edge_traits.specs.declared.shelf.File.TheVariants.{Container}
+use Rattle.sd_base.specs.declared.file.File.{File}
+use Rattle.sd_base.specs.declared.file.File.TheVariants.{Container}
 use Rattle.edge_traits.specs.declared.fault.EdgeFault.{EdgeFault}
 use Rattle.edge_traits.specs.declared.fault.EdgeFault.TheVariants.{Failed, OutOfMemory}
 use Rattle.edge_traits.specs.Shelf.{content, SameFiles, Appended, AppendedPrefix, CutTo, CutOrSame, IsReadAt}

@@ -1,8 +1,8 @@
 -- The files of containers. Each fact holds of an observable shelf, whose contents are known to the contract, and says nothing
 -- of another.
 use Rattle.std.specs.Prelude.{◌≡◌, ℕ, ◌<◌, List, [], ◌++◌, length, take, slice_index_or, Option, option_map, IfSome}
-use Rattle.edge_traits.specs.declared.shelf.File.{File}
-use Rattle.edge_traits.specs.declared.shelf.File.TheVariants.{Container}
+use Rattle.sd_base.specs.declared.file.File.{File}
+use Rattle.sd_base.specs.declared.file.File.TheVariants.{Container}
 use Rattle.edge_traits.specs.Shelf.{content}
 use Rattle.container_pack.specs.declared.spot.Spot.{Spot}
 use Rattle.container_pack.specs.Spots.{LiesAt}

@@ -1,8 +1,8 @@
 -- What a packer knows of the chunks before it, and where it appends.
 use Rattle.std.specs.Prelude.{◌≡◌, ℕ, ◌<◌, ◌≤◌, List, length, map, All, Option}
 use Rattle.sd_base.specs.Packing.{packing}
-use Rattle.edge_traits.specs.declared.shelf.File.{File}
-use Rattle.edge_traits.specs.declared.shelf.File.TheVariants.{Container}
+use Rattle.sd_base.specs.declared.file.File.{File}
+use Rattle.sd_base.specs.declared.file.File.TheVariants.{Container}
 use Rattle.container_pack.specs.declared.packer.Packer.{Packer}
 use Rattle.container_pack.specs.declared.spot.Spot.{Spot}
 use Rattle.container_pack.specs.Spots.{nothing_filled, filled_by, filled_on, last_spot}

@@ -1,6 +1,6 @@
 //! Chunks read back from their spots.
 ghost use Rattle.std.specs.Prelude.{◌≡◌, ◌≤◌, ℕ, List, vec_len, IfOk, IfSome, IsErrOf};
-ghost use Rattle.edge_traits.specs.declared.shelf.File.TheVariants.{Container};
+ghost use Rattle.sd_base.specs.declared.file.File.TheVariants.{Container};
 ghost use Rattle.edge_traits.specs.Faults.{Rose};
 ghost use Rattle.edge_traits.specs.Shelf.{content, SameFiles, SameLoose, IsReadAt};
 ghost use Rattle.container_pack.specs.Containers.{IsStored};

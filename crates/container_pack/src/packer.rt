@@ -2,8 +2,8 @@
 ghost use Rattle.std.specs.Prelude.{◌≡◌, ◌≢◌, ◌⊎◌, ◌↔◌, ◌+◌, ◌≤◌, ◌<◌, ℕ, List, [], ◌∷◌, ◌++◌, length, map, All, false, slice_index_or, IfOk, OnOk, OnErr, IsOk, IsErrOf};
 ghost use Rattle.sd_base.specs.declared.limits.TheConstants.{MAX_CHUNKS};
 ghost use Rattle.sd_base.specs.Packing.{packing, header_of};
-ghost use Rattle.edge_traits.specs.declared.shelf.File.{File};
-ghost use Rattle.edge_traits.specs.declared.shelf.File.TheVariants.{Container};
+ghost use Rattle.sd_base.specs.declared.file.File.{File};
+ghost use Rattle.sd_base.specs.declared.file.File.TheVariants.{Container};
 ghost use Rattle.edge_traits.specs.Faults.{Rose};
 ghost use Rattle.edge_traits.specs.Shelf.{content, SameFiles, ChangesOnly, CutTo, MayLoosen};
 ghost use Rattle.container_pack.specs.Spots.{IsSound, LiesAt, spots_of};

@@ -2,8 +2,8 @@
 use Rattle.std.proofs.Common.{◌≡◌, ◌≢◌, ◌⊎◌, inl, inr, ℕ, zero, suc, Bool, true, false, List, [], ◌∷◌, ◌++◌, get_or, set, cond, refl, sym, ap, ◌∙◌, subst, arith}
 use Rattle.std.specs.Prelude.{Result, Ok, Err, OnErr, Option, Some, None, option_map, unwrap_or, All}
 use Rattle.std.proofs.lemmas.Bool.{eq-eqb, ne_eqb, and_left, and_right, and_from, cases_eq}
-use Rattle.edge_traits.specs.declared.shelf.File.{File}
-use Rattle.edge_traits.specs.declared.shelf.File.TheVariants.{Head, Seal, Book, Container}
+use Rattle.sd_base.specs.declared.file.File.{File}
+use Rattle.sd_base.specs.declared.file.File.TheVariants.{Head, Seal, Book, Container}
 use Rattle.edge_traits.specs.declared.entries.Entry.{Entry}
 use Rattle.edge_traits.specs.Entries.{is_same_file, entry_in, bytes_in, loose_in, IsPlaceOf, SameEntries, ChangesEntry}
 

@@ -1,7 +1,7 @@
 -- The files of a shelf in memory, as a list of entries. Defined by this project.
 use Rattle.std.specs.Prelude.{◌≡◌, ◌≢◌, ℕ, ◌<◌, Bool, true, false, ◌&&◌, nat_eq, if◌then◌else◌, List, [], ◌∷◌, length, slice_index_or, Option, Some, None, option_map, unwrap_or}
-use Rattle.edge_traits.specs.declared.shelf.File.{File}
-use Rattle.edge_traits.specs.declared.shelf.File.TheVariants.{Head, Seal, Book, Container}
+use Rattle.sd_base.specs.declared.file.File.{File}
+use Rattle.sd_base.specs.declared.file.File.TheVariants.{Head, Seal, Book, Container}
 use Rattle.edge_traits.specs.declared.entries.Entry.{Entry}
 
 abbrev pub is_same_file : File → File → Bool

@@ -3,7 +3,7 @@ use Rattle.std.specs.Prelude.{◌≡◌, ℕ, List, Bool, Option, Result, IsErrO
 use Rattle.edge_traits.specs.declared.fault.EdgeFault.{EdgeFault}
 use Rattle.edge_traits.specs.declared.fault.EdgeFault.TheVariants.{Failed}
 use Rattle.edge_traits.specs.declared.mem_shelf.MemShelf.{MemShelf}
-use Rattle.edge_traits.specs.declared.shelf.File.{File}
+use Rattle.sd_base.specs.declared.file.File.{File}
 use Rattle.edge_traits.specs.declared.shelf_plan.ShelfFail.{ShelfFail}
 use Rattle.edge_traits.specs.Entries.{bytes_in, loose_in}
 use Rattle.edge_traits.specs.Faults.{counted_once_more, CountsFailed}

@@ -1,6 +1,6 @@
 -- What the calls of a shelf do to its files. Defined by this project.
 use Rattle.std.specs.Prelude.{◌≡◌, ◌≢◌, ◌⊎◌, ℕ, ◌≤◌, List, ◌++◌, length, take, drop, Bool, true, false, Option, option_map, IfSome}
-use Rattle.edge_traits.specs.declared.shelf.File.{File}
+use Rattle.sd_base.specs.declared.file.File.{File}
 
 -- the bytes of one file, where they are told
 abbrev pub content : Option (File → List ℕ) → File → Option (List ℕ)

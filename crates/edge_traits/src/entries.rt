@@ -1,6 +1,6 @@
 //! The files of a shelf in memory, one entry a file. A file that has no entry counts as empty, and it is not loose.
 ghost use Rattle.std.specs.Prelude.{◌≡◌, ◌≢◌, ◌<◌, ◌++◌, [], ℕ, true, false, length, take, All, IsTrue, ◌↔◌, IfSome, IfNone, IfOk, OnOk, OnErr};
-ghost use Rattle.edge_traits.specs.declared.shelf.File.{File};
+ghost use Rattle.sd_base.specs.declared.file.File.{File};
 ghost use Rattle.edge_traits.specs.Entries.{bytes_in, loose_in, IsPlaceOf, SameEntries, ChangesEntry};
 
 use crate::File;

@@ -1,6 +1,6 @@
 //! A shelf that keeps its files in memory, and fails where it is told to.
 ghost use Rattle.std.specs.Prelude.{◌≡◌, ◌≢◌, ◌≤◌, ◌++◌, ℕ, [], length, take, drop, true, false, Some, IfOk, IfSome, OnOk, OnErr, IsErrOf, IsNone, if◌then◌else◌, ◌==◌};
-ghost use Rattle.edge_traits.specs.declared.shelf.File.{File};
+ghost use Rattle.sd_base.specs.declared.file.File.{File};
 ghost use Rattle.edge_traits.specs.Entries.{SameEntries, ChangesEntry};
 
 use crate::entries::{self, Entry};

@@ -1,23 +1,10 @@
 //! Where the files of a store lie.
 ghost use Rattle.std.specs.Prelude.{◌≡◌, ◌≤◌, ℕ, List, Bool, Option, length, take, IfOk, OnOk, OnErr, IsErrOf};
-ghost use Rattle.edge_traits.specs.declared.shelf.File.{File};
+ghost use Rattle.sd_base.specs.declared.file.File.{File};
 ghost use Rattle.edge_traits.specs.Faults.{Rose};
 ghost use Rattle.edge_traits.specs.Shelf.{content, SameFiles, ChangesOnly, Appended, AppendedPrefix, CutTo, CutOrSame, HasLength, IsReadAt, SameLoose, MayLoosen, Flushed};
 
-use crate::EdgeFault;
-
-/// A file of a store. The first number is the generation. Defined by this project.
-#[derive(Clone, Copy, Debug, PartialEq, Eq)]
-pub enum File {
-    /// The settings, the byte that opens the store, and a byte for each later generation.
-    Head,
-    /// A byte for each committed record of a generation.
-    Seal(u32),
-    /// The records of a generation, one after another.
-    Book(u32),
-    /// The chunks of a container, by generation and number.
-    Container(u32, u32),
-}
+use crate::{EdgeFault, File};
 
 /// A finite map from `File` to bytes, in which a file that is not there counts as empty. Files grow at the end and are
 /// cut there, and a flush makes a file last. Defined by this project.

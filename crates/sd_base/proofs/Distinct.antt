@@ -7,7 +7,7 @@ use Rattle.std.proofs.lemmas.Bool.{cases_Bool}
 use Rattle.std.proofs.lemmas.Map.Views.{any-filter_same}
 use Rattle.std.proofs.lemmas.Slice.Eq.{bytes_eq-Decides}
 use Rattle.std.proofs.lemmas.List.Elements.{filter-append}
-use Rattle.sd_base.specs.Distinct.{is_among, not_among, distinct, first_index, AreDifferent}
+use Rattle.sd_base.specs.Distinct.{is_among, not_among, distinct, first_index, new_chunks, AreDifferent}
 
 -- nothing is among no chunks
 not_among-nothing : (chunks : List (List ℕ)) → not_among [] chunks ≡ chunks
@@ -31,7 +31,7 @@ not_among-both chunk others (first ∷ chunks) =
       ]
     ]
 
-pub distinct-append : (xs ys : List (List ℕ)) → distinct (xs ++ ys) ≡ distinct xs ++ not_among xs (distinct ys)
+pub distinct-append : (xs ys : List (List ℕ)) → distinct (xs ++ ys) ≡ distinct xs ++ new_chunks xs ys
 distinct-append [] ys = sym (not_among-nothing (distinct ys))
 distinct-append (x ∷ xs) ys =
     ap (λ rest. x ∷ not_among (x ∷ []) rest) (distinct-append xs ys)

@@ -18,4 +18,6 @@ pub mod Distinct
 pub mod ContainerSizes
 pub mod States
 pub mod Files
+pub mod StateExamples
 pub mod OpeningExamples
+pub mod Recipes

@@ -1,11 +1,11 @@
--- Worked examples of the verdict of opening, one for each kind of damage.
+-- Worked examples of the verdict of opening: one for each kind of damage.
 use Rattle.std.specs.Prelude.{◌≡◌, IsTrue, ℕ, ◌+◌, ◌^◌, ◌<◌, ◌≤◌, List, [], ◌∷◌, ◌++◌, length, replicate, codes}
 use Rattle.std.proofs.Common.{inl, inr, refl, sym, ap, ◌∙◌, lit<, lit≤, arith}
 use Rattle.std.proofs.Math.Seq.{take-nil}
 use Rattle.std.proofs.lemmas.List.{append-nil}
 use Rattle.sd_base.specs.Books.{BookState, book_of, book_after}
 use Rattle.sd_base.specs.Examples.{small_params, IsValid-small_params, session_of, two_chunks}
-use Rattle.sd_base.specs.Opening.{IsOpeningDamage, HasHead}
+use Rattle.sd_base.specs.Opening.{HeadState, HasHead, IsOpeningDamage}
 use Rattle.std.proofs.lemmas.List.Elements.{All-from_recursion}
 use Rattle.sd_base.specs.Names.{IsName, name_byte}
 use Rattle.sd_base.specs.Books.{MayIngest}
@@ -29,14 +29,17 @@ files_with head seal book (Container g k) = []
 abbrev small_head : List ℕ
 small_head = settings_of (small_params 0) ++ 0x53 ∷ []
 
-has_small_head : (seal book : List ℕ) → HasHead (files_with small_head seal book) (small_params 0) 0
-has_small_head seal book = record { valid = IsValid-small_params; settings = refl; length = refl; few = lit≤ tt }
+abbrev first_head : HeadState
+first_head = record { params = small_params 0; generation = 0 }
+
+has_small_head : (seal book : List ℕ) → HasHead (files_with small_head seal book) first_head
+has_small_head seal book = record { valid = IsValid-small_params; settings = refl; size = refl; within_limit = lit≤ tt }
 
 -- 33 zeros are no head
 pub damage-of_zeros_as_head : IsOpeningDamage (files_with (replicate 33 0) [] []) damage.Head
 damage-of_zeros_as_head = inl (record {
-  there = lit≤ tt;
-  none = λ params generation head. let clash = head.settings in absurd cc;
+  long_enough = lit≤ tt;
+  none = λ head has. let clash = has.settings in absurd cc;
   equals = refl;
 })
 
@@ -47,9 +50,8 @@ spelling-not_empty entry none = absurd cc
 
 pub damage-of_a_seal_without_a_record : IsOpeningDamage (files_with small_head (0x53 ∷ []) []) (damage.Record 0)
 damage-of_a_seal_without_a_record = inr (inl (record {
-  params = small_params 0;
-  generation = 0;
-  head = has_small_head (0x53 ∷ []) [];
+  head = first_head;
+  has_head = has_small_head (0x53 ∷ []) [];
   first = inl (record {
     k = 0;
     within = lit< tt;
@@ -92,9 +94,8 @@ unfounded_may_follow = record {
 pub damage-of_an_entry_that_names_no_chunk :
     IsOpeningDamage (files_with small_head (0x53 ∷ []) (book_of (Ingest unfounded ∷ []))) (damage.Recipe 0 0)
 damage-of_an_entry_that_names_no_chunk = inr (inl (record {
-  params = small_params 0;
-  generation = 0;
-  head = has_small_head (0x53 ∷ []) (book_of (Ingest unfounded ∷ []));
+  head = first_head;
+  has_head = has_small_head (0x53 ∷ []) (book_of (Ingest unfounded ∷ []));
   first = inr (record {
     records = Ingest unfounded ∷ [];
     count = refl;
@@ -132,9 +133,7 @@ of_one_chunk_may_follow = record {
 pub damage-of_a_container_that_is_not_there :
     IsOpeningDamage (files_with small_head (0x53 ∷ []) (book_of (Ingest of_one_chunk ∷ []))) (damage.Container 0 16 0)
 damage-of_a_container_that_is_not_there = inr (inr (record {
-  params = small_params 0;
-  generation = 0;
-  book = book_after 256 (Ingest of_one_chunk ∷ []);
+  opened = record { head = first_head; book = book_after 256 (Ingest of_one_chunk ∷ []) };
   number = 0;
   head = has_small_head (0x53 ∷ []) (book_of (Ingest of_one_chunk ∷ []));
   committed = record {

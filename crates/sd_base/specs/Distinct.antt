@@ -17,6 +17,10 @@ abbrev pub distinct : List (List ℕ) → List (List ℕ)
 distinct [] = []
 distinct (chunk ∷ chunks) = chunk ∷ not_among (chunk ∷ []) (distinct chunks)
 
+-- the chunks of a list that are not among those before it, each once, in order of first occurrence
+abbrev pub new_chunks : List (List ℕ) → List (List ℕ) → List (List ℕ)
+new_chunks before chunks = not_among before (distinct chunks)
+
 -- the least index of a chunk in a list, or the number of its chunks if it is not among them
 abbrev pub first_index : List (List ℕ) → List ℕ → ℕ
 first_index chunks chunk = position_or_len (bytes_eq chunk) chunks

@@ -36,7 +36,7 @@ pub record ArePrefixes (before after : List (List ℕ)) : Type 0 where
   pub no_fewer : length before ≤ length after
   pub prefix : (k : ℕ) → k < length before → (rest : List ℕ) × (slice_index_or after k [] ≡ slice_index_or before k [] ++ rest)
 
--- the bytes of the containers of chunks of these lengths, from one that is open
+-- the sizes of the containers of chunks of these lengths; the first is open and has this size
 abbrev pub sizes_on : ℕ → List ℕ → List ℕ
 sizes_on size [] = size ∷ []
 sizes_on size (n ∷ ns) =
@@ -44,7 +44,7 @@ sizes_on size (n ∷ ns) =
     then sizes_on (size + n) ns
     else size ∷ sizes_on (CONTAINER_HEADER + n) ns
 
--- the bytes of the containers of chunks, by the lengths of the chunks alone
+-- the sizes of the containers of chunks, by the lengths of the chunks alone
 abbrev pub container_sizes : List ℕ → List ℕ
 container_sizes [] = []
 container_sizes (n ∷ ns) = sizes_on (CONTAINER_HEADER + n) ns

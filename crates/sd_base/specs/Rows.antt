@@ -1,11 +1,11 @@
--- The rows of texts that show a store. They come from a state, or from the committed records of a store whose files hold no
--- lawful state; the rows of a state are those of its records.
+-- The rows of `list`: from a state, or from the committed records of a store whose files hold no lawful state.
 use Rattle.std.specs.Prelude.{ℕ, ◌+◌, List, [], ◌∷◌, length, if◌then◌else◌}
+use Rattle.sd_base.specs.Books.{BookState}
 use Rattle.sd_base.specs.States.{State, StoredSession, sessions_in, bytes_of_session}
 use Rattle.sd_base.specs.Texts.{SessionRow}
 use Rattle.sd_base.specs.declared.record.Session.{Session}
 
--- a session of a state, by its number
+-- session k of a state
 abbrev pub row_of_session : ℕ → StoredSession → SessionRow
 row_of_session k session = record {
   number = k;
@@ -14,27 +14,31 @@ row_of_session k session = record {
   places = length session.chunks;
 }
 
--- the live ones of sessions from a number on
+-- the live ones of these sessions, if the first of them has number k
 abbrev pub live_rows : ℕ → List StoredSession → List SessionRow
 live_rows k [] = []
 live_rows k (session ∷ sessions) =
     if session.live then row_of_session k session ∷ live_rows (k + 1) sessions else live_rows (k + 1) sessions
 
--- the rows of `list` on a state
+-- the rows of a state
 abbrev pub rows_of_state : State → List SessionRow
 rows_of_state state = live_rows 0 (sessions_in state)
 
--- a session of a book, by its number
-abbrev pub row_of_record : ℕ → Session → SessionRow
-row_of_record k session = record {
+-- session k of a book
+abbrev pub row_of_book_session : ℕ → Session → SessionRow
+row_of_book_session k session = record {
   number = k;
   name = session.entry.name;
   bytes = session.entry.length;
   places = length session.entry.recipe;
 }
 
--- the live ones of a book's sessions from a number on
+-- the live ones of these sessions of a book, if the first of them has number k
 abbrev pub live_book_rows : ℕ → List Session → List SessionRow
 live_book_rows k [] = []
 live_book_rows k (session ∷ sessions) =
-    if session.live then row_of_record k session ∷ live_book_rows (k + 1) sessions else live_book_rows (k + 1) sessions
+    if session.live then row_of_book_session k session ∷ live_book_rows (k + 1) sessions else live_book_rows (k + 1) sessions
+
+-- the rows of a book
+abbrev pub rows_of_book : BookState → List SessionRow
+rows_of_book book = live_book_rows 0 book.sessions

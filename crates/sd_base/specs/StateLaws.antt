@@ -1,10 +1,10 @@
 -- Laws of states and of the files that hold them, in the words of the subject.
-use Rattle.std.specs.Prelude.{◌≡◌, ℕ, List, [], ◌∷◌, ◌++◌, length, map}
-use Rattle.sd_base.specs.Distinct.{is_among, not_among, distinct, AreDifferent}
+use Rattle.std.specs.Prelude.{◌≡◌, ℕ, List, [], ◌∷◌, ◌++◌, length, map, slice_index_or, Some}
+use Rattle.std.specs.List.{All}
+use Rattle.sd_base.specs.Distinct.{is_among, distinct, new_chunks, not_among, AreDifferent}
 use Rattle.sd_base.specs.Packing.{packing, container_sizes}
-use Rattle.sd_base.specs.States.{Event, State, stored_chunks, followed_by_event}
-use Rattle.sd_base.specs.Stores.{AreClean, files_of, records_of}
-use Rattle.sd_base.specs.declared.record.Record.{Record}
+use Rattle.sd_base.specs.States.{Event, State, placed_chunks, stored_chunks, recipe_of, sessions_in, followed_by_event}
+use Rattle.sd_base.specs.Stores.{AreClean, files_of, record_of, records_of}
 
 -- a chunk is among the distinct chunks of a list exactly if it is in the list
 abbrev pub DistinctChunksAreThoseOfTheList : Type 0
@@ -15,22 +15,33 @@ DistinctChunksAreThoseOfTheList =
 abbrev pub DistinctChunksDiffer : Type 0
 DistinctChunksDiffer = (chunks : List (List ℕ)) → AreDifferent (distinct chunks)
 
--- if chunks are added at the end of a list, its distinct chunks stay, and those that are new come after them
+-- if chunks are added at the end of a list, its distinct chunks stay, and the new ones come after them
 abbrev pub DistinctChunksOnlyGrow : Type 0
 DistinctChunksOnlyGrow =
-    (chunks more : List (List ℕ)) → distinct (chunks ++ more) ≡ distinct chunks ++ not_among chunks (distinct more)
+    (chunks more : List (List ℕ)) → distinct (chunks ++ more) ≡ distinct chunks ++ new_chunks chunks more
 
--- one more event leaves the stored chunks with their numbers, and may add more after them
+-- one more event leaves the stored chunks with their numbers, and adds its new chunks after them
 abbrev pub StoredChunksOnlyGrow : Type 0
 StoredChunksOnlyGrow =
     (state : State) (event : Event) →
-    (new : List (List ℕ)) × (stored_chunks (followed_by_event state event) ≡ stored_chunks state ++ new)
+    stored_chunks (followed_by_event state event)
+    ≡ stored_chunks state ++ new_chunks (placed_chunks state.events) (placed_chunks (event ∷ []))
 
--- one more event leaves the records as they are, and adds one after them
+-- one more event leaves the records as they are, and adds its record after them
 abbrev pub RecordsOnlyGrow : Type 0
 RecordsOnlyGrow =
     (name_of : List ℕ → List ℕ) (state : State) (event : Event) →
-    (entry : Record) × (records_of name_of (followed_by_event state event) ≡ records_of name_of state ++ entry ∷ [])
+    records_of name_of (followed_by_event state event)
+    ≡ records_of name_of state ++ record_of name_of (stored_chunks (followed_by_event state event)) (placed_chunks state.events) event ∷ []
+
+-- chunk k of a list, or no bytes if there is none
+abbrev pub chunk_at : List (List ℕ) → ℕ → List ℕ
+chunk_at chunks k = slice_index_or chunks k []
+
+-- a recipe gives back its session: the stored chunks that it names are the session's chunks
+abbrev pub RecipesNameTheirChunks : Type 0
+RecipesNameTheirChunks =
+    (state : State) → All (λ session. map (chunk_at (stored_chunks state)) (recipe_of state session) ≡ session.chunks) (sessions_in state)
 
 -- the sizes of containers follow from the lengths of the chunks
 abbrev pub SizesFollowFromLengths : Type 0
@@ -38,4 +49,4 @@ SizesFollowFromLengths = (chunks : List (List ℕ)) → map length (packing chun
 
 -- each state is held by files that have nothing else
 abbrev pub EachStateHasItsFiles : Type 0
-EachStateHasItsFiles = (name_of : List ℕ → List ℕ) (state : State) → AreClean name_of (files_of name_of state) state
+EachStateHasItsFiles = (name_of : List ℕ → List ℕ) (state : State) → AreClean name_of (files_of name_of state) (Some state)

@@ -1,7 +1,7 @@
--- The states of a store: what was done to it, as a finite list of events. Chunks stand in a state as bytes: no name of a
--- chunk enters, and no file.
+-- The states of a store: what was done to it, as a finite list of events. A state has its chunks as bytes: no
+-- name of a chunk enters, and no file.
 use Rattle.std.specs.Prelude.{◌≡◌, ℕ, zero, suc, ◌+◌, ◌^◌, ◌<◌, ◌≤◌, ◌&&◌, Bool, true, false, IsTrue, if◌then◌else◌, List, [], ◌∷◌, ◌++◌, length, map, Option, None, unwrap_or, option_map}
-use Rattle.std.specs.List.{All, concat, flat_map, fold, sum_by, position, slice_get}
+use Rattle.std.specs.List.{All, concat, fold, position, slice_get}
 use Rattle.std.specs.Str.{bytes_eq}
 use Rattle.sd_base.specs.Cutting.{chunks_of}
 use Rattle.sd_base.specs.Distinct.{distinct, first_index}
@@ -73,12 +73,16 @@ is_live_in sessions k = unwrap_or (option_map (λ session. session.live) (slice_
 abbrev pub live_session_named : List StoredSession → List ℕ → Option ℕ
 live_session_named sessions name = position (λ session. session.live && bytes_eq session.name name) sessions
 
--- the numbers of the live sessions, rising, of sessions from a number on
+-- the numbers of the live sessions, rising, if the first of these sessions has number k
 abbrev pub live_numbers : ℕ → List StoredSession → List ℕ
 live_numbers k [] = []
 live_numbers k (session ∷ sessions) = if session.live then k ∷ live_numbers (k + 1) sessions else live_numbers (k + 1) sessions
 
--- an event that may follow: a name is taken once at a time, and a session that is dropped is live
+-- the numbers of the live sessions of a state, rising
+abbrev pub live_sessions : State → List ℕ
+live_sessions state = live_numbers 0 (sessions_in state)
+
+-- an event that may follow these sessions: an ingest under a name that no live session has, or a drop of a live session
 abbrev pub MayHappen : List StoredSession → Event → Type 0
 MayHappen sessions (ingested name chunks) = IsName name × (live_session_named sessions name ≡ None)
 MayHappen sessions (dropped k) = IsTrue (is_live_in sessions k)
@@ -88,10 +92,9 @@ abbrev pub MayAllHappen : List StoredSession → List Event → Type 0
 MayAllHappen sessions [] = Unit {0}
 MayAllHappen sessions (event ∷ events) = MayHappen sessions event × MayAllHappen (with_event sessions event) events
 
--- the chunks are the cutting of their bytes, which are few enough to be counted in 32 bits
-pub record IsCutting (params : RawParams) (chunks : List (List ℕ)) : Type 0 where
-  pub cut : chunks ≡ chunks_of params (concat chunks)
-  pub counted : length (concat chunks) < 2 ^ 32
+-- the chunks are the cutting of their bytes
+abbrev pub IsCutting : RawParams → List (List ℕ) → Type 0
+IsCutting params chunks = chunks ≡ chunks_of params (concat chunks)
 
 -- a state that a store may be in
 pub record IsLawful (state : State) : Type 0 where
@@ -99,10 +102,11 @@ pub record IsLawful (state : State) : Type 0 where
   pub generation : state.generation ≤ MAX_GENERATION
   pub events : MayAllHappen [] state.events
   pub cut : All (λ session. IsCutting state.params session.chunks) (sessions_in state)
+  pub bytes : All (λ session. length (bytes_of_session session) < 2 ^ 32) (sessions_in state)
   pub sessions : length (sessions_in state) ≤ MAX_SESSIONS
   pub places : length (placed_chunks state.events) ≤ MAX_PLACES
   pub chunks : length (stored_chunks state) ≤ MAX_CHUNKS
 
 -- the state after one more event
 abbrev pub followed_by_event : State → Event → State
-followed_by_event state event = record { params = state.params; generation = state.generation; events = state.events ++ event ∷ [] }
+followed_by_event state event = record state { events = state.events ++ event ∷ [] }

@@ -1,4 +1,4 @@
-/// A file of a store. The first number is the generation.
+/// A file of a store. The first number is the generation. A file that is not there is empty.
 #[derive(Clone, Copy, Debug, PartialEq, Eq)]
 pub enum File {
     /// The settings, the byte that opens the store, and a byte for each later generation.
@@ -7,6 +7,6 @@ pub enum File {
     Seal(u32),
     /// The records of a generation, one after another.
     Book(u32),
-    /// The chunks of a container, by generation and number.
+    /// A header and the chunks of a container, by generation and number.
     Container(u32, u32),
 }

@@ -32,10 +32,10 @@ pub use laws::{
     next_cut_is_the_least, ranges_are_the_refusals,
 };
 pub use limits::{
-    CONTAINER_HEADER, DEFAULT_BITS, DEFAULT_MAX, DEFAULT_MIN, DEFAULT_POLYNOMIAL, DEFAULT_SEGMENT,
-    DEFAULT_TARGET, DEFAULT_WORKERS, FORMAT_VERSION, MAX_BITS, MAX_CHUNK_LEN, MAX_CHUNKS,
+    COMMIT_BYTE, CONTAINER_HEADER, DEFAULT_BITS, DEFAULT_MAX, DEFAULT_MIN, DEFAULT_POLYNOMIAL,
+    DEFAULT_SEGMENT, DEFAULT_TARGET, DEFAULT_WORKERS, MAX_BITS, MAX_CHUNK_LEN, MAX_CHUNKS,
     MAX_CONTAINER, MAX_GENERATION, MAX_INPUT, MAX_NAME, MAX_PLACES, MAX_SESSIONS, METHOD_RABIN,
-    MIN_CHUNK_LEN, MIN_POLYNOMIAL, OPEN_HEAD, SETTINGS_LEN, WINDOW,
+    MIN_CHUNK_LEN, MIN_POLYNOMIAL, OPEN_HEAD_LEN, SETTINGS_LEN, SETTINGS_VERSION, WINDOW,
 };
 pub use name::{BadName, Name};
 pub use out_of_memory::OutOfMemory;
@@ -48,6 +48,6 @@ pub use record::{
 };
 pub use state_laws::{
     container_sizes_are_by_lengths, distinct_chunks_are_each_once, each_state_has_its_files,
-    stores_only_grow,
+    recipes_name_their_chunks, stores_only_grow,
 };
 pub use words::{BadKind, BadWords, Command, Quiet};

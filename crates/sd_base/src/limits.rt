@@ -44,13 +44,17 @@ pub const MAX_GENERATION: u32 = 65_535;
 pub const SETTINGS_LEN: u32 = 32;
 
 /// Bytes of the shortest head that opens a store: the settings and one byte.
-pub const OPEN_HEAD: u32 = SETTINGS_LEN + 1;
+pub const OPEN_HEAD_LEN: u32 = SETTINGS_LEN + 1;
 
-/// The version of the format in a store's settings.
-pub const FORMAT_VERSION: u8 = 1;
+/// The version byte of a store's settings. A new format of records does not change it.
+pub const SETTINGS_VERSION: u8 = 1;
 
 /// The method of cutting in a store's settings: Rabin's fingerprint.
 pub const METHOD_RABIN: u8 = 0;
+
+/// The byte that is appended to commit: to the head when a store is made and for each later generation, and to the seal
+/// for each record. A reader looks at the number of these bytes alone.
+pub const COMMIT_BYTE: u8 = 0x53;
 
 /// Bytes of the longest name of a session: its length is one byte of a record.
 pub const MAX_NAME: usize = 64;

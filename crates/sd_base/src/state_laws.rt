@@ -1,6 +1,6 @@
 //! Laws of states and of the files that hold them. Each is the contract of a function that does nothing.
 
-ghost use Rattle.sd_base.specs.StateLaws.{DistinctChunksAreThoseOfTheList, DistinctChunksDiffer, DistinctChunksOnlyGrow, StoredChunksOnlyGrow, RecordsOnlyGrow, SizesFollowFromLengths, EachStateHasItsFiles};
+ghost use Rattle.sd_base.specs.StateLaws.{DistinctChunksAreThoseOfTheList, DistinctChunksDiffer, DistinctChunksOnlyGrow, StoredChunksOnlyGrow, RecordsOnlyGrow, RecipesNameTheirChunks, SizesFollowFromLengths, EachStateHasItsFiles};
 
 /// The distinct chunks of a list are those of the list, each once, in order of first occurrence.
 pub fn distinct_chunks_are_each_once()
@@ -13,6 +13,11 @@ pub fn distinct_chunks_are_each_once()
 pub fn stores_only_grow()
     ensures chunks { StoredChunksOnlyGrow }
     ensures records { RecordsOnlyGrow }
+{}
+
+/// The stored chunks that the recipe of a session names, in order, are the session's chunks.
+pub fn recipes_name_their_chunks()
+    ensures { RecipesNameTheirChunks }
 {}
 
 /// The sizes of containers follow from the lengths of the chunks.

@@ -1,6 +1,6 @@
 use Rattle.std.proofs.Common.{arith}
 use Rattle.std.proofs.lemmas.Grind.{common_steps}
-use Rattle.edge_traits.specs.declared.shelf.File.TheVariants.{Container}
+use Rattle.sd_base.specs.declared.file.File.TheVariants.{Container}
 use Rattle.edge_traits.specs.Shelf.{content, IsReadAt}
 use Rattle.container_pack.proofs.ShelfLemmas.{IsStored-read}
 use Rattle.container_pack.proofs.chunk_reader.read_chunk.Goals as goal

@@ -2,7 +2,7 @@ use Rattle.std.proofs.Common.{◌≡◌, ◌≢◌, ap, subst, ◌∷◌, [], �
 use Rattle.std.specs.Prelude.{Err}
 use Rattle.sd_base.specs.Packing.{packing, header_of}
 use Rattle.edge_traits.specs.Shelf.{content, ChangesOnly}
-use Rattle.edge_traits.specs.declared.shelf.File.TheVariants.{Container}
+use Rattle.sd_base.specs.declared.file.File.TheVariants.{Container}
 use Rattle.container_pack.specs.declared.spot.Spot.{Spot}
 use Rattle.container_pack.specs.Spots.{LiesAt}
 use Rattle.container_pack.specs.Containers.{HasOnly, ContainersBegin, AppendedAt, KeepsFront}

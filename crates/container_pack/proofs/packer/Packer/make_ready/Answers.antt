@@ -1,7 +1,7 @@
 use Rattle.std.proofs.Common.{ℕ, subst}
 use Rattle.std.specs.Prelude.{OnErr}
-use Rattle.edge_traits.specs.declared.shelf.File.{File}
-use Rattle.edge_traits.specs.declared.shelf.File.TheVariants.{Container}
+use Rattle.sd_base.specs.declared.file.File.{File}
+use Rattle.sd_base.specs.declared.file.File.TheVariants.{Container}
 use Rattle.container_pack.specs.Containers.{KeepsFront}
 use Rattle.container_pack.proofs.ShelfLemmas.{KeepsFront-refused_cut}
 use Rattle.container_pack.proofs.packer.Packer.make_ready.Goals as goal
