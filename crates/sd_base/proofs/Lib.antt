@@ -21,3 +21,4 @@ pub mod Files
 pub mod StateExamples
 pub mod OpeningExamples
 pub mod Recipes
+pub mod StateBooks

@@ -41,3 +41,4 @@ pub mod Opening
 pub mod Rows
 pub mod StateLaws
 pub mod StoreExamples
+pub mod StateBooks
