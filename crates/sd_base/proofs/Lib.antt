@@ -22,3 +22,4 @@ pub mod StateExamples
 pub mod OpeningExamples
 pub mod Recipes
 pub mod StateBooks
+pub mod HeldStates

@@ -10,7 +10,8 @@ use Rattle.std.proofs.lemmas.List.{append_assoc, length-map, map-append}
 use Rattle.std.proofs.lemmas.List.Sums.{sum_by-cons}
 use Rattle.sd_base.specs.Books.{followed_by, without, sessions_of, chunks_in, places_in, is_live, live_session, bytes_named, or_else, recipe_flaw, flaw_at, recipe_damage}
 use Rattle.sd_base.specs.Distinct.{is_among, distinct, first_index, new_chunks}
-use Rattle.sd_base.specs.Rows.{live_rows, live_book_rows}
+use Rattle.sd_base.specs.Rows.{live_rows, live_book_rows, row_of_session, row_of_book_session}
+use Rattle.sd_base.specs.Texts.{SessionRow}
 use Rattle.sd_base.specs.StateBooks.{book_session, book_sessions}
 use Rattle.sd_base.specs.States.{Event, ingested, dropped, State, StoredSession, with_drop, with_event, sessions_after, sessions_in, placed_chunks, stored_chunks, is_live_in, live_session_named}
 use Rattle.sd_base.specs.Stores.{named, ingest_record, record_of, records_from, records_of}
@@ -37,7 +38,7 @@ session_chunks-drop (session ∷ sessions) zero = refl
 session_chunks-drop (session ∷ sessions) (suc k) = ap (λ rest. session.chunks ++ rest) (session_chunks-drop sessions k)
 
 -- an event adds its chunks to those of the sessions
-session_chunks-event : (sessions : List StoredSession) (event : Event) →
+pub session_chunks-event : (sessions : List StoredSession) (event : Event) →
     session_chunks (with_event sessions event) ≡ session_chunks sessions ++ placed_chunks (event ∷ [])
 session_chunks-event sessions (ingested name chunks) = session_chunks-append sessions (record { name = name; chunks = chunks; live = true } ∷ [])
 session_chunks-event sessions (dropped k) = session_chunks-drop sessions k ∙ sym (append-nil (session_chunks sessions))
@@ -73,7 +74,7 @@ module _ (name_of : List ℕ → List ℕ) (stored : List (List ℕ)) where
   book_sessions-drop before (x ∷ xs) (suc k) = ap (λ rest. book_session name_of stored before x ∷ rest) (book_sessions-drop (before ++ x.chunks) xs k)
 
   -- one record leads from the sessions of the book to those with one more event
-  followed-record : (sessions : List StoredSession) (event : Event) →
+  pub followed-record : (sessions : List StoredSession) (event : Event) →
       followed_by (book_sessions name_of stored [] sessions) (record_of name_of stored (session_chunks sessions) event)
       ≡ book_sessions name_of stored [] (with_event sessions event)
   followed-record sessions (ingested name chunks) = sym (book_sessions-append [] sessions (record { name = name; chunks = chunks; live = true }))
@@ -87,7 +88,7 @@ module _ (name_of : List ℕ → List ℕ) (stored : List (List ℕ)) where
       let before = session_chunks sessions ++ placed_chunks (event ∷ []) in
       ap (λ b. fold followed_by b (records_from name_of stored before events)) (followed-record sessions event)
       ∙ ap (λ b. fold followed_by (book_sessions name_of stored [] (with_event sessions event)) (records_from name_of stored b events))
-          (sym (session_chunks-event sessions event))
+      (sym (session_chunks-event sessions event))
       ∙ followed-records events (with_event sessions event)
 
   -- the chunks of the book are the distinct ones, by length and name
@@ -100,8 +101,8 @@ module _ (name_of : List ℕ → List ℕ) (stored : List (List ℕ)) where
       let later = chunks_in (book_sessions name_of stored (before ++ s.chunks) sessions) in
       sym (append_assoc (map (named name_of) (distinct before)) (map (named name_of) (new_chunks before s.chunks)) later)
       ∙ ap (λ front. front ++ later)
-          (sym (map-append (named name_of) (distinct before) (new_chunks before s.chunks))
-          ∙ ap (map (named name_of)) (sym (distinct-append before s.chunks)))
+      (sym (map-append (named name_of) (distinct before) (new_chunks before s.chunks))
+      ∙ ap (map (named name_of)) (sym (distinct-append before s.chunks)))
       ∙ chunks-book (before ++ s.chunks) sessions
       ∙ ap (λ b. map (named name_of) (distinct b)) (append_assoc before s.chunks (session_chunks sessions))
 
@@ -128,7 +129,7 @@ module _ (name_of : List ℕ → List ℕ) (stored : List (List ℕ)) where
   same_place before (s ∷ sessions) name = elim (cases_Bool (s.live && bytes_eq s.name name)) [
     | inl here ↦ rw here refl
     | inr other ↦ rw other (ap (λ n. 1 + n) (same_place (before ++ s.chunks) sessions name))
-    ]
+  ]
 
   pub live_session-book : (before : List (List ℕ)) (sessions : List StoredSession) (name : List ℕ) →
       live_session (book_sessions name_of stored before sessions) name ≡ live_session_named sessions name
@@ -148,7 +149,7 @@ first_index-below (first ∷ chunks) chunk among = elim (cases_Bool (bytes_eq ch
   | inr other ↦
       let below = first_index-below chunks chunk (rw other at among) in
       rw other (omega (arith, below))
-  ]
+]
 
 length-next : (name_of : List ℕ → List ℕ) (first : List ℕ) (chunks : List (List ℕ)) (n : ℕ) →
     (slice_index_or (map (named name_of) (first ∷ chunks)) (1 + n) (record { length = 0; name = [] })).length
@@ -164,7 +165,7 @@ length-named name_of [] chunk among = absurd cc
 length-named name_of (first ∷ chunks) chunk among = elim (cases_Bool (bytes_eq chunk first)) [
   | inl same ↦ rw same (ap length (sym ((bytes_eq-Decides chunk first).0 same)))
   | inr other ↦ rw other (length-next name_of first chunks (first_index chunks chunk) ∙ length-named name_of chunks chunk (rw other at among))
-  ]
+]
 
 -- entries below a limit
 none_from : (limit : ℕ) (entries : List ℕ) → AllByRecursion (λ n. n < limit) entries → position_or_len (λ n. nat_le limit n) entries ≡ length entries
@@ -187,9 +188,10 @@ module _ (name_of : List ℕ → List ℕ) (kept more : List (List ℕ)) where
       AllByRecursion (λ n. n < length kept) (map (first_index (kept ++ more)) chunks)
   entries-below [] among = tt
   entries-below (chunk ∷ chunks) among =
-      let own = among chunk (among_own chunk chunks) in
-      (subst (λ n. n < length kept) (sym (first_index-append kept more chunk own)) (first_index-below kept chunk own),
-       entries-below chunks (λ c later. among c (among_later c chunk chunks later)))
+      let own = among chunk (among_own chunk chunks) in (
+        subst (λ n. n < length kept) (sym (first_index-append kept more chunk own)) (first_index-below kept chunk own),
+        entries-below chunks (λ c later. among c (among_later c chunk chunks later)),
+      )
 
   -- and they name chunks of their lengths
   bytes-named : (chunks : List (List ℕ)) → ((chunk : List ℕ) → is_among chunks chunk ≡ true → is_among kept chunk ≡ true) →
@@ -211,9 +213,9 @@ module _ (name_of : List ℕ → List ℕ) (kept more : List (List ℕ)) where
   no_flaw name fresh chunks among =
       let entries = map (first_index (kept ++ more)) chunks in
       ap2_or_else
-        (ap (λ limit. position (λ n. nat_le limit n) entries) (length-map kept (named name_of))
-        ∙ position_none (λ n. nat_le (length kept) n) entries (none_from (length kept) entries (entries-below chunks among)))
-        (if_equal (bytes_named (map (named name_of) kept) entries) (length (concat chunks)) None (Some (length entries)) (bytes-named chunks among))
+      (ap (λ limit. position (λ n. nat_le limit n) entries) (length-map kept (named name_of))
+      ∙ position_none (λ n. nat_le (length kept) n) entries (none_from (length kept) entries (entries-below chunks among)))
+      (if_equal (bytes_named (map (named name_of) kept) entries) (length (concat chunks)) None (Some (length entries)) (bytes-named chunks among))
 
 flaws_none : {flaw : Option ℕ} {later : Option Damage} (k : ℕ) → flaw ≡ None → later ≡ None → flaw_at k flaw later ≡ None
 flaws_none {flaw = flaw} {later = later} k none none_later = rw none none_later
@@ -227,18 +229,36 @@ no_recipe_damage name_of stored more before k (s ∷ sessions) all =
     let kept = distinct (before ++ s.chunks) in
     let others = new_chunks (before ++ s.chunks) (session_chunks sessions) ++ more in
     let split : stored ≡ kept ++ others =
-        all ∙ ap (λ b. distinct b ++ more) (sym (append_assoc before s.chunks (session_chunks sessions)))
-        ∙ ap (λ b. b ++ more) (distinct-append (before ++ s.chunks) (session_chunks sessions))
-        ∙ append_assoc kept (new_chunks (before ++ s.chunks) (session_chunks sessions)) more in
+    all ∙ ap (λ b. distinct b ++ more) (sym (append_assoc before s.chunks (session_chunks sessions)))
+    ∙ ap (λ b. b ++ more) (distinct-append (before ++ s.chunks) (session_chunks sessions))
+    ∙ append_assoc kept (new_chunks (before ++ s.chunks) (session_chunks sessions)) more in
     let fresh = map (named name_of) (new_chunks before s.chunks) in
     let so_far : map (named name_of) (distinct before) ++ fresh ≡ map (named name_of) kept =
-        sym (map-append (named name_of) (distinct before) (new_chunks before s.chunks)) ∙ ap (map (named name_of)) (sym (distinct-append before s.chunks)) in
+    sym (map-append (named name_of) (distinct before) (new_chunks before s.chunks)) ∙ ap (map (named name_of)) (sym (distinct-append before s.chunks)) in
     let own : recipe_flaw (map (named name_of) (distinct before) ++ fresh) (ingest_record name_of stored before s.name s.chunks) ≡ None =
-        ap (λ chunks. recipe_flaw chunks (ingest_record name_of stored before s.name s.chunks)) so_far
-        ∙ ap (λ all_stored. recipe_flaw (map (named name_of) kept) (ingest_record name_of all_stored before s.name s.chunks)) split
-        ∙ no_flaw name_of kept others s.name fresh s.chunks (λ c here. is_among-distinct (before ++ s.chunks) c ∙ among_second c before s.chunks here) in
+    ap (λ chunks. recipe_flaw chunks (ingest_record name_of stored before s.name s.chunks)) so_far
+    ∙ ap (λ all_stored. recipe_flaw (map (named name_of) kept) (ingest_record name_of all_stored before s.name s.chunks)) split
+    ∙ no_flaw name_of kept others s.name fresh s.chunks (λ c here. is_among-distinct (before ++ s.chunks) c ∙ among_second c before s.chunks here) in
     let later : recipe_damage (map (named name_of) (distinct before) ++ fresh) (k + 1) (book_sessions name_of stored (before ++ s.chunks) sessions) ≡ None =
-        ap (λ chunks. recipe_damage chunks (k + 1) (book_sessions name_of stored (before ++ s.chunks) sessions)) so_far
-        ∙ no_recipe_damage name_of stored more (before ++ s.chunks) (k + 1) sessions
-          (all ∙ ap (λ b. distinct b ++ more) (sym (append_assoc before s.chunks (session_chunks sessions)))) in
+    ap (λ chunks. recipe_damage chunks (k + 1) (book_sessions name_of stored (before ++ s.chunks) sessions)) so_far
+    ∙ no_recipe_damage name_of stored more (before ++ s.chunks) (k + 1) sessions
+    (all ∙ ap (λ b. distinct b ++ more) (sym (append_assoc before s.chunks (session_chunks sessions)))) in
     flaws_none k own later
+
+-- a row, and rows after it that are the same
+row-first : (name_of : List ℕ → List ℕ) (stored before : List (List ℕ)) (k : ℕ) (s : StoredSession) {xs ys : List SessionRow} → xs ≡ ys →
+    row_of_book_session k (book_session name_of stored before s) ∷ xs ≡ row_of_session k s ∷ ys
+row-first name_of stored before k s {xs = xs} {ys = ys} same =
+    ap (λ places. record { number = k; name = s.name; bytes = length (concat s.chunks); places = places } ∷ xs) (length-map s.chunks (first_index stored))
+    ∙ ap (λ rows. row_of_session k s ∷ rows) same
+
+-- the rows of `list` are the same from the book
+pub rows-book : (name_of : List ℕ → List ℕ) (stored before : List (List ℕ)) (k : ℕ) (sessions : List StoredSession) →
+    live_book_rows k (book_sessions name_of stored before sessions) ≡ live_rows k sessions
+rows-book name_of stored before k [] = refl
+rows-book name_of stored before k (s ∷ sessions) =
+    let later = rows-book name_of stored (before ++ s.chunks) (k + 1) sessions in
+    elim (cases_Bool s.live) [
+      | inl live ↦ rw live (row-first name_of stored before k s later)
+      | inr dead ↦ rw dead later
+    ]

@@ -3,8 +3,12 @@ use Rattle.std.specs.Prelude.{◌≡◌, ℕ, List, [], ◌∷◌, ◌++◌, len
 use Rattle.std.specs.List.{All}
 use Rattle.sd_base.specs.Distinct.{is_among, distinct, new_chunks, not_among, AreDifferent}
 use Rattle.sd_base.specs.Packing.{packing, container_sizes}
-use Rattle.sd_base.specs.States.{Event, State, placed_chunks, stored_chunks, recipe_of, sessions_in, followed_by_event}
-use Rattle.sd_base.specs.Stores.{AreClean, files_of, record_of, records_of}
+use Rattle.sd_base.specs.Opening.{OpenAs}
+use Rattle.sd_base.specs.Rows.{rows_of_book, rows_of_state}
+use Rattle.sd_base.specs.StateBooks.{book_of_state}
+use Rattle.sd_base.specs.States.{Event, IsLawful, State, placed_chunks, stored_chunks, recipe_of, sessions_in, followed_by_event}
+use Rattle.sd_base.specs.Stores.{AreClean, GivesNames, HoldState, files_of, record_of, records_of}
+use Rattle.sd_base.specs.declared.file.File.{File}
 
 -- a chunk is among the distinct chunks of a list exactly if it is in the list
 abbrev pub DistinctChunksAreThoseOfTheList : Type 0
@@ -50,3 +54,15 @@ SizesFollowFromLengths = (chunks : List (List ℕ)) → map length (packing chun
 -- each state is held by files that have nothing else
 abbrev pub EachStateHasItsFiles : Type 0
 EachStateHasItsFiles = (name_of : List ℕ → List ℕ) (state : State) → AreClean name_of (files_of name_of state) (Some state)
+
+-- the rows of `list` are the same from a state and from its book
+abbrev pub RowsAreThoseOfTheBook : Type 0
+RowsAreThoseOfTheBook =
+    (name_of : List ℕ → List ℕ) (state : State) → rows_of_book (book_of_state name_of state) ≡ rows_of_state state
+
+-- files that hold a lawful state open as its book, so they are never found damaged
+abbrev pub HeldStatesOpen : Type 0
+HeldStatesOpen =
+    (name_of : List ℕ → List ℕ) (files : File → List ℕ) (state : State) →
+    GivesNames name_of → IsLawful state → HoldState name_of files state →
+    OpenAs files (record { head = record { params = state.params; generation = state.generation }; book = book_of_state name_of state })

@@ -48,6 +48,6 @@ pub use record::{
 };
 pub use state_laws::{
     container_sizes_are_by_lengths, distinct_chunks_are_each_once, each_state_has_its_files,
-    recipes_name_their_chunks, stores_only_grow,
+    held_states_open, recipes_name_their_chunks, stores_only_grow,
 };
 pub use words::{BadKind, BadWords, Command, Quiet};

@@ -1,6 +1,6 @@
 //! Laws of states and of the files that hold them. Each is the contract of a function that does nothing.
 
-ghost use Rattle.sd_base.specs.StateLaws.{DistinctChunksAreThoseOfTheList, DistinctChunksDiffer, DistinctChunksOnlyGrow, StoredChunksOnlyGrow, RecordsOnlyGrow, RecipesNameTheirChunks, SizesFollowFromLengths, EachStateHasItsFiles};
+ghost use Rattle.sd_base.specs.StateLaws.{DistinctChunksAreThoseOfTheList, DistinctChunksDiffer, DistinctChunksOnlyGrow, StoredChunksOnlyGrow, RecordsOnlyGrow, RecipesNameTheirChunks, SizesFollowFromLengths, EachStateHasItsFiles, HeldStatesOpen, RowsAreThoseOfTheBook};
 
 /// The distinct chunks of a list are those of the list, each once, in order of first occurrence.
 pub fn distinct_chunks_are_each_once()
@@ -28,4 +28,10 @@ pub fn container_sizes_are_by_lengths()
 /// Each state is held by files that have nothing else.
 pub fn each_state_has_its_files()
     ensures { EachStateHasItsFiles }
+{}
+
+/// Files that hold a lawful state open as the book of its events, and `list` shows of that book what it shows of the state.
+pub fn held_states_open()
+    ensures opened { HeldStatesOpen }
+    ensures rows { RowsAreThoseOfTheBook }
 {}
