@@ -1,8 +1,9 @@
 #!/usr/bin/env python3
 """Measures `backup STORE plan` beside sha256sum and wc on the same bytes, as a Markdown table.
 
-The programs run in turn on the same file as standard input, and the table has the best time and the highest
-memory of each. wc takes it through a pipe: on a file it would look up the size and read nothing.
+The programs run in turn on the same file as standard input. The table has the best time and the
+highest memory of each. wc takes the file through a pipe: given the file itself, it would look up
+the size and read nothing.
 """
 
 import argparse

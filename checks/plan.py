@@ -1,116 +1,54 @@
-"""Tests of the built program from outside: what `backup STORE plan` prints and what it refuses."""
+"""What `backup STORE plan` prints: the chunks of inputs and by parameters of every kind."""
 
 import hashlib
-import os
-import subprocess
-import sys
 import tempfile
-from contextlib import suppress
-from functools import partial
-from itertools import zip_longest
-from pathlib import Path
+from dataclasses import replace
+from functools import lru_cache, partial
 from random import Random
-from threading import Thread
-from typing import NamedTuple
 
 import reference
-from reference import DEFAULTS, KNOWN_CUTS, SPARSE_ZERO, Params
+from harness import STORE, Mismatch, add_test, each_row, expect, file_of, run, test
+from reference import (
+    DEFAULTS,
+    KNOWN_CUTS,
+    LONGEST_CHUNK,
+    LONGEST_INPUT,
+    WINDOW,
+    Params,
+    keys_of,
+    marked_zeros,
+)
 
-BUILT = Path(__file__).resolve().parent.parent / "crates/backup/out/backup"
-PROGRAM = Path(os.environ.get("BACKUP", BUILT)).resolve()
-SECONDS = 60
-LONGEST_INPUT = 2**28
-
-TESTS = {}
-
-
-def add_test(name, function):
-    if name in TESTS:
-        raise ValueError(f"two tests are named {name}, and only one would run")
-    TESTS[name] = function
-
-
-def test(function):
-    add_test(function.__name__, function)
-    return function
-
-
-class Mismatch(Exception):
-    pass
-
-
-class Run(NamedTuple):
-    status: int
-    output: bytes
-    notes: bytes
-
-
-def run(words, source=b"", output=subprocess.PIPE, starter=()):
-    """Runs the program on bytes or on an open file, by itself or through a starter."""
-    given = {"input" if isinstance(source, bytes) else "stdin": source}
-    given.update(stdout=output, stderr=subprocess.PIPE, timeout=SECONDS)
-    try:
-        ended = subprocess.run([*starter, PROGRAM, *words], **given)
-    except subprocess.TimeoutExpired:
-        raise Mismatch(f"wanted an end within {SECONDS} seconds, came none") from None
-    return Run(ended.returncode, ended.stdout or b"", ended.stderr)
-
-
-def difference(wanted, came):
-    """Says where two runs differ, each stream by its first line that does."""
-    if wanted.status != came.status:
-        yield f"status: wanted {wanted.status}, came {came.status}"
-    for stream in ("output", "notes"):
-        pair = (getattr(it, stream).splitlines(keepends=True) for it in (wanted, came))
-        for number, (one, other) in enumerate(zip_longest(*pair, fillvalue=b""), 1):
-            if one != other:
-                yield f"{stream}, line {number}: wanted {one[:200]}, came {other[:200]}"
-                break
-
-
-def expect(came, status=0, output=b"", notes=b""):
-    if differences := "; ".join(difference(Run(status, output, notes), came)):
-        raise Mismatch(differences)
-
-
-def expect_refusal(came, status, note):
-    expect(came, status, notes=f"backup: {note}\n".encode())
-
-
-def expect_early_refusal(words, status, note):
-    """Expects that the words are refused before anything is read or written."""
-    with tempfile.TemporaryFile() as source:
-        source.write(b"abc")
-        source.seek(0)
-        expect_refusal(run(words, source), status, note)
-        if taken := os.lseek(source.fileno(), 0, os.SEEK_CUR):
-            raise Mismatch(f"wanted 0 bytes taken, came {taken}")
-
-
-def expect_early_refusals(status, note, rows):
-    """Runs each row's words, and names those whose refusal is not the note with the row's end."""
-    for words, end in rows:
-        try:
-            expect_early_refusal(words, status, f"{note} {end}")
-        except Mismatch as mismatch:
-            raise Mismatch(f"words {words}: {mismatch}") from None
-
-
-def keys_of(params):
-    """The keys that `plan` needs to cut by these parameters."""
-    if params == DEFAULTS:
-        return []
-    numbers = [f"{key}={getattr(params, key)}" for key in ("bits", "target", "min", "max")]
-    return [f"polynomial={params.polynomial:x}", *numbers]
+# Degrees 16 and 17 are the least, 63 is the greatest.
+EDGE_POLYNOMIALS = [
+    0x10001,
+    0x1002D,
+    0x1FFFF,
+    0x20001,
+    0x20009,
+    0x3FFFF,
+    0x4000000000000001,
+    0x8000000000000001,
+    0x800000000000001B,
+    0xFFFFFFFFFFFFFFFF,
+]
 
 
 def expect_lengths(params, text, lengths):
-    came = run(["store", "plan", *keys_of(params)], text)
+    """Expects that the text, which comes through a pipe, is cut into chunks of these lengths."""
+    came = run([STORE, "plan", *keys_of(params)], text)
     expect(came, output=reference.lines_of(text, lengths))
 
 
 def expect_plan(params, text):
     expect_lengths(params, text, reference.lengths_of(params, text))
+
+
+def expect_equal_chunks(length_of_chunk, text):
+    """Expects chunks of one length, since the minimum and the maximum are that length."""
+    whole, rest = divmod(len(text), length_of_chunk)
+    lengths = [length_of_chunk] * whole + [rest] * (rest > 0)
+    expect_lengths(replace(DEFAULTS, min=length_of_chunk, max=length_of_chunk), text, lengths)
 
 
 @test
@@ -131,7 +69,7 @@ def published_names_come_out():
         ),
     }
     for text, name in published.items():
-        expect(run(["store", "plan"], text), output=b"0 %d %s\n" % (len(text), name))
+        expect(run([STORE, "plan"], text), output=b"0 %d %s\n" % (len(text), name))
 
 
 def mixed_text(seed, length):
@@ -157,7 +95,7 @@ def mixed_texts_are_cut_by_the_definition():
 
 
 @test
-def long_mixed_text_is_cut_by_the_definition():
+def random_text_with_a_gap_of_zeros_is_cut_by_the_definition():
     random = Random(200_000)
     expect_plan(DEFAULTS, random.randbytes(30_000) + bytes(140_000) + random.randbytes(30_000))
 
@@ -190,228 +128,149 @@ def mixed_texts_are_cut_by_given_parameters():
         expect_plan(short_chunks, text)
 
 
-def trickle(text):
-    """Opens a pipe from which each read takes one byte."""
-    reader, writer = os.pipe2(os.O_DIRECT | os.O_CLOEXEC)
-
-    def write():
-        with suppress(BrokenPipeError), open(writer, "wb", buffering=0) as pipe:
-            for byte in text:
-                pipe.write(bytes([byte]))
-
-    Thread(target=write, daemon=True).start()
-    return open(reader, "rb", buffering=0)
+@test
+def long_random_text_is_cut_by_the_definition():
+    params = Params(polynomial=DEFAULTS.polynomial, bits=7, target=5, min=16_000, max=65536)
+    expect_plan(params, Random(2_000_000).randbytes(2_000_000))
 
 
 @test
-def input_comes_byte_by_byte():
-    known = KNOWN_CUTS["minimum_counts_from_the_last_cut"]
-    with trickle(known.text) as source:
-        came = run(["store", "plan"], source)
-    expect(came, output=reference.lines_of(known.text, known.lengths))
+def long_chunks_are_cut_by_the_definition():
+    params = replace(DEFAULTS, bits=9, target=300, min=300_000, max=LONGEST_CHUNK)
+    expect_plan(params, Random(5_000_000).randbytes(5_000_000))
 
 
 @test
-def store_is_not_made():
-    expect(run(["untouched", "plan"], b"abc"), output=reference.plan(DEFAULTS, b"abc"))
-    if Path("untouched").exists():
-        raise Mismatch("wanted no store, came one")
+def plan_of_many_lines_is_printed_whole():
+    expect_equal_chunks(48, bytes(4_000_000))
 
 
 @test
-def output_is_closed():
-    closing = ("sh", "-c", 'exec "$@" >&-', "sh")
-    expect_refusal(run(["store", "plan"], b"abc", starter=closing), 11, "writing failed")
+def random_text_is_cut_into_the_shortest_chunks():
+    expect_equal_chunks(48, Random(48).randbytes(3_000_001))
 
 
 @test
-def output_is_full():
-    with open("/dev/full", "wb") as full:
-        expect_refusal(run(["store", "plan"], b"abc", full), 11, "writing failed")
+def random_text_is_cut_into_the_longest_chunks():
+    expect_equal_chunks(LONGEST_CHUNK, Random(20).randbytes(2 * LONGEST_CHUNK + 5))
 
 
 @test
-def output_has_no_reader():
-    reader, writer = os.pipe()
-    os.close(reader)
-    with open(writer, "wb") as pipe:
-        expect_refusal(run(["store", "plan"], b"abc", pipe), 11, "writing failed")
+def every_mark_in_a_long_text_cuts_by_the_limits():
+    mark = DEFAULTS.target
+    if not reference.mark_makes_one_candidate(DEFAULTS, mark):
+        raise Mismatch("the marks of this test make more candidates than their own")
+    draw, length, candidates = Random(32), 2**25, [WINDOW]
+    while candidates[-1] < length - 100_000:
+        candidates.append(candidates[-1] + draw.randrange(WINDOW, 100_000))
+    text = marked_zeros(mark, [it - 1 for it in candidates], length)
+    lines = reference.lines_of(text, reference.lengths_between(DEFAULTS, candidates, length))
+    with file_of(text) as source:
+        expect(run([STORE, "plan"], source), output=lines)
 
 
-@test
-def output_is_full_in_the_middle_of_the_text():
-    text = bytes(6400)
-    wanted = reference.plan(SPARSE_ZERO, text)
-    # The file takes 512 bytes. A write beyond them fails, where it would else end the program.
-    limiting = ("sh", "-c", "trap '' XFSZ; ulimit -f 1; exec \"$@\"", "sh")
-    with tempfile.TemporaryFile() as file:
-        came = run(["store", "plan", *keys_of(SPARSE_ZERO)], text, file, limiting)
-        expect_refusal(came, 11, "writing failed")
-        file.seek(0)
-        written = file.read()
-    if not written or written == wanted or not wanted.startswith(written):
-        raise Mismatch(f"wanted a prefix of the text, came {written}")
-
-
-@test
-def empty_plan_needs_no_room():
-    with open("/dev/full", "wb") as full:
-        expect(run(["store", "plan"], b"", full))
-
-
-@test
-def input_is_a_folder():
-    folder = os.open(".", os.O_RDONLY)
-    try:
-        expect_refusal(run(["store", "plan"], folder), 10, "reading failed")
-    finally:
-        os.close(folder)
-
-
-@test
-def longest_input_is_cut():
-    zeros = bytes(65536)
-    name = hashlib.sha256(zeros).hexdigest()
-    lines = (f"{offset} 65536 {name}\n" for offset in range(0, LONGEST_INPUT, 65536))
-    with tempfile.TemporaryFile() as text:
-        text.truncate(LONGEST_INPUT)
-        expect(run(["store", "plan"], text), output="".join(lines).encode())
-
-
-@test
-def input_is_one_byte_too_long():
-    with tempfile.TemporaryFile() as zeros:
-        zeros.truncate(LONGEST_INPUT + 1)
-        expect_refusal(run(["store", "plan"], zeros), 8, "input too long")
-
-
-BAD_PARAMS = [
-    (["polynomial=0"], "polynomial"),
-    (["polynomial=ffff"], "polynomial"),
-    (["polynomial=8000000000000000"], "polynomial"),
-    (["bits=0"], "bits"),
-    (["bits=17"], "bits"),
-    (["target=8192"], "target"),
-    (["bits=1", "target=2"], "target"),
-    (["min=0"], "min"),
-    (["min=47"], "min"),
-    (["max=2047"], "max"),
-    (["max=1048577"], "max"),
-    (["max=0", "min=0", "target=9999", "bits=99", "polynomial=2"], "polynomial"),
-    (["max=0", "min=0", "target=9999", "bits=99"], "bits"),
-    (["max=0", "min=0", "target=9999"], "target"),
-    (["max=0", "min=0"], "min"),
+LIMIT_ROWS = [
+    # Keys, the index of a mark or None, the length of the text, and the lengths of its chunks.
+    (["max=1048576"], None, 2**21 + 1, [2**20, 2**20, 1]),
+    (["max=1048576"], 2**20 - 1, 2**20 + 50, [2**20, 50]),
+    (["max=1048576"], 2**20 - 2, 2**20 + 50, [2**20 - 1, 51]),
+    (["max=1048576"], 2**20, 2**20 + 50, [2**20, 50]),
+    (["min=300000", "max=1048576"], 299_999, 300_100, [300_000, 100]),
+    (["min=300000", "max=1048576"], 299_998, 300_100, [300_100]),
+    (["min=65536"], 65_000, 70_000, [65536, 4464]),
+    (["min=48"], 47, 100, [48, 52]),
+    (["min=48"], 46, 100, [100]),
+    (["min=48", "max=48"], 60, 100, [48, 48, 4]),
+    (["max=48", "min=48"], None, 96, [48, 48]),
+    (["max=2048"], None, 5000, [2048, 2048, 904]),
+    (["min=1048576", "max=1048576"], 70_000, 2**20 + 7, [2**20, 7]),
 ]
 
 
 @test
-def bad_parameters_are_refused_by_the_first_kind():
-    rows = ((["store", "plan", *keys], kind) for keys, kind in BAD_PARAMS)
-    expect_early_refusals(14, "bad parameter:", rows)
+def limits_at_their_edges_cut():
+    def expect_row(keys, index, length, lengths):
+        text = marked_zeros(DEFAULTS.target, [] if index is None else [index], length)
+        came = run([STORE, "plan", *keys], text)
+        expect(came, output=reference.lines_of(text, lengths))
 
-
-MISSING, COMMAND, KEY, VALUE = "0: missing", "0: command", "1: key", "1: value"
-WRONG_WORDS = [
-    ([], MISSING),
-    (["store"], MISSING),
-    (["plan"], MISSING),
-    (["--help"], MISSING),
-    (["store", "--help"], COMMAND),
-    (["store", "--version"], COMMAND),
-    (["store", "Plan"], COMMAND),
-    (["store", "plans"], COMMAND),
-    (["store", ""], COMMAND),
-    (["store", "store", "plan"], COMMAND),
-    # Commands of a store are not built.
-    (["store", "init"], COMMAND),
-    (["store", "ingest", "a"], COMMAND),
-    (["store", "bulk", "7", "1"], COMMAND),
-    (["store", "list"], COMMAND),
-    (["store", "restore", "a"], COMMAND),
-    (["store", "drop", "a"], COMMAND),
-    (["store", "refs"], COMMAND),
-    (["store", "audit"], COMMAND),
-    # Words that are not UTF-8 have no place.
-    (["store", b"\xff"], COMMAND),
-    (["store", "plan", b"\xff"], COMMAND),
-    ([b"\xff", "plan"], COMMAND),
-    (["store", "plan", "speed=3"], KEY),
-    (["store", "plan", "plan"], KEY),
-    (["store", "plan", ""], KEY),
-    (["store", "plan", "--help"], KEY),
-    (["store", "plan", "speed=3", "speed=3"], KEY),
-    (["store", "plan", "bits"], KEY),
-    (["store", "plan", "=3"], KEY),
-    (["store", "plan", "Bits=3"], KEY),
-    (["store", "plan", "workers=2"], KEY),
-    (["store", "plan", "bits=13", "speed=3"], "2: key"),
-    (["store", "plan", "bits=13", "bits=99"], "2: twice"),
-    (["store", "plan", "bits=13", "max=0", "bits=x"], "3: twice"),
-    (["store", "plan", "bits="], VALUE),
-    (["store", "plan", "bits==3"], VALUE),
-    (["store", "plan", "bits=07"], VALUE),
-    (["store", "plan", "bits=+7"], VALUE),
-    (["store", "plan", "bits= 7"], VALUE),
-    (["store", "plan", "bits=0x7"], VALUE),
-    (["store", "plan", "max=4294967296"], VALUE),
-    (["store", "plan", "max=18446744073709551616"], VALUE),
-    (["store", "plan", "max=100000000000000000000"], VALUE),
-    (["store", "plan", "polynomial="], VALUE),
-    (["store", "plan", "polynomial=0x11"], VALUE),
-    (["store", "plan", "polynomial=00000000000010001"], VALUE),
-    (["store", "plan", "min=64", "max=x", "speed=3"], "2: value"),
-]
+    each_row(LIMIT_ROWS, expect_row)
 
 
 @test
-def wrong_words_are_refused_by_their_place():
-    expect_early_refusals(2, "bad words at", WRONG_WORDS)
+def polynomials_at_their_edges_cut():
+    text = mixed_text(16, 3000)
+
+    def expect_row(polynomial, bits):
+        # The target is that of a window of the text, so that something is cut there.
+        window = text[700 - WINDOW : 700]
+        target = reference.fingerprint(polynomial, window) % 2**bits
+        expect_plan(Params(polynomial, bits, target, min=48, max=2500), text)
+
+    each_row(((it, bits) for it in EDGE_POLYNOMIALS for bits in (1, 6, 15, 16)), expect_row)
+
+
+KEYS_ALONE = [("polynomial", 0x1000001), ("bits", 9), ("target", 77), ("min", 3000), ("max", 3000)]
+
+
+@test
+def one_key_alone_leaves_the_others_as_they_are():
+    marked = marked_zeros(DEFAULTS.target, [2500], 4_000) + marked_zeros(77, [3000], 4_000)
+    text = marked + Random(14).randbytes(5_000)
+
+    def expect_row(key, number):
+        params = replace(DEFAULTS, **{key: number})
+        lengths = reference.lengths_of(params, text)
+        if lengths == reference.lengths_of(DEFAULTS, text):
+            raise Mismatch("the text of this test does not tell the key from its default")
+        value = f"{number:x}" if key == "polynomial" else number
+        came = run([STORE, "plan", f"{key}={value}"], text)
+        expect(came, output=reference.lines_of(text, lengths))
+
+    each_row(KEYS_ALONE, expect_row)
 
 
 @test
 def spellings_of_a_number_are_read():
     known = Params(polynomial=0x00ABCDEF01, bits=9, target=0, min=48, max=300)
     text = mixed_text(3, 4000)
+    lines = reference.plan(known, text)
     for polynomial in ("00abcdef01", "ABCDEF01", "aBcDeF01", "00000000abcdef01"):
         keys = ["max=300", "min=48", "target=0", f"polynomial={polynomial}", "bits=9"]
-        came = run(["store", "plan", *keys], text)
-        expect(came, output=reference.lines_of(text, reference.lengths_of(known, text)))
+        expect(run([STORE, "plan", *keys], text), output=lines)
 
 
-def failure_of(function):
-    """Runs a test and returns what it says in one line where it fails."""
-    try:
-        function()
-    except Mismatch as mismatch:
-        return str(mismatch)
-    except Exception as error:
-        return f"{type(error).__name__}: {' '.join(str(error).split())}"
-    return None
+def marks_of_the_longest_input():
+    """Candidates near each power of 2 and, apart from these, about one in 3 MB."""
+    draw, candidates = Random(28), {LONGEST_INPUT}
+    for power in range(16, 28):
+        candidates.add(2**power + draw.randrange(-1, 2))
+    for start in range(2**20, LONGEST_INPUT - 2**20, 3_000_000):
+        candidates.add(start + draw.randrange(900_000))
+    return sorted(candidates)
 
 
-def run_tests():
-    """Runs the tests and returns how many passed and how many failed."""
-    passed, failed = 0, 0
-    with tempfile.TemporaryDirectory() as room:
-        os.chdir(room)
-        for name, function in TESTS.items():
-            if failure := failure_of(function):
-                failed += 1
-                print(f"{name}: {failure}")
-            else:
-                passed += 1
-    return passed, failed
+@lru_cache(maxsize=None)
+def name_of_marked_zeros(length, indexes):
+    return hashlib.sha256(marked_zeros(DEFAULTS.target, indexes, length)).hexdigest()
 
 
-def main():
-    passed, failed = 0, 0
-    if os.access(PROGRAM, os.X_OK):
-        passed, failed = run_tests()
-    else:
-        print(f"{PROGRAM} is not there or cannot be run: rt ci builds it")
-    print(f"{len(TESTS)} collected, {passed} passed, {failed} failed")
-    return 0 if passed == len(TESTS) else 1
+def lines_of_marked_zeros(candidates, length):
+    """The lines of a text too long to be held, of which each distinct chunk is named once."""
+    offset = 0
+    for size in reference.lengths_between(DEFAULTS, candidates, length):
+        indexes = tuple(it - 1 - offset for it in candidates if offset < it <= offset + size)
+        yield f"{offset} {size} {name_of_marked_zeros(size, indexes)}\n"
+        offset += size
 
 
-if __name__ == "__main__":
-    sys.exit(main())
+@test
+def longest_input_is_cut():
+    candidates = marks_of_the_longest_input()
+    with tempfile.TemporaryFile() as source:
+        for candidate in candidates:
+            source.seek(candidate - 1)
+            source.write(bytes([DEFAULTS.target]))
+        source.seek(0)
+        lines = "".join(lines_of_marked_zeros(candidates, LONGEST_INPUT)).encode()
+        expect(run([STORE, "plan"], source), output=lines)

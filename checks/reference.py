@@ -3,12 +3,16 @@
 Run as a program it compares itself with values that were worked out by hand.
 """
 
+from bisect import bisect_left
 from dataclasses import dataclass
+from functools import lru_cache
 from hashlib import sha256
 from random import Random
 from typing import NamedTuple
 
 WINDOW = 48
+LONGEST_INPUT = 2**28
+LONGEST_CHUNK = 2**20
 
 
 @dataclass(frozen=True)
@@ -20,6 +24,14 @@ class Params:
     max: int = 65536
 
 
+def keys_of(params):
+    """The keys that `plan` needs to cut by these parameters, each with its value."""
+    if params == Params():
+        return []
+    numbers = [f"{key}={getattr(params, key)}" for key in ("bits", "target", "min", "max")]
+    return [f"polynomial={params.polynomial:x}", *numbers]
+
+
 def remainder(polynomial, dividend):
     """Divides polynomials over GF(2) whose coefficients are the bits of these numbers."""
     degree = polynomial.bit_length() - 1
@@ -28,8 +40,24 @@ def remainder(polynomial, dividend):
     return dividend
 
 
+@lru_cache(maxsize=None)
+def remainders_of_bytes(polynomial):
+    """For each byte, its remainder if its lowest bit is the coefficient of t^degree."""
+    degree = polynomial.bit_length() - 1
+    return [remainder(polynomial, byte << degree) for byte in range(256)]
+
+
+# Kept, since most windows of a sparse input are equal.
+@lru_cache(maxsize=4096)
 def fingerprint(polynomial, window):
-    return remainder(polynomial, int.from_bytes(window, "big"))
+    """Divides a window, the high bit of each byte first, byte by byte."""
+    degree = polynomial.bit_length() - 1
+    table, low_bits = remainders_of_bytes(polynomial), 2**degree - 1
+    rest = 0
+    for byte in window:
+        longer = rest << 8 | byte
+        rest = longer & low_bits ^ table[longer >> degree]
+    return rest
 
 
 def is_candidate(params, text, position):
@@ -55,8 +83,21 @@ def lengths_of(params, text):
     return lengths
 
 
+def lengths_between(params, candidates, length):
+    """The lengths of the chunks of an input that has this length and exactly these candidates."""
+    lengths, start = [], 0
+    while start < length:
+        cut = min(start + params.max, length)
+        least = bisect_left(candidates, start + params.min)
+        if least < len(candidates):
+            cut = min(cut, candidates[least])
+        lengths.append(cut - start)
+        start = cut
+    return lengths
+
+
 def lines_of(text, lengths):
-    """The lines of `plan` where a text is cut into pieces of these lengths."""
+    """The lines of `plan` if a text is cut into pieces of these lengths."""
     lines, offset = [], 0
     for length in lengths:
         name = sha256(text[offset : offset + length]).hexdigest()
@@ -69,16 +110,22 @@ def plan(params, text):
     return lines_of(text, lengths_of(params, text))
 
 
-def zeros_but(mark, places, length):
-    """Zero bytes, but for a mark at each of these places.
+def marked_zeros(mark, indexes, length):
+    """Zero bytes, except for a mark at each of these indexes.
 
     The fingerprint of 47 zeros and a mark is the mark, modulo every polynomial of degree 8 or
-    more. So where the target is the mark, the position behind it is a candidate.
+    more. So if the target is the mark, the position after it is a candidate.
     """
     text = bytearray(length)
-    for place in places:
-        text[place] = mark
+    for index in indexes:
+        text[index] = mark
     return bytes(text)
+
+
+def mark_makes_one_candidate(params, mark):
+    """Whether a mark among zeros makes the position after it a candidate and no other."""
+    text = marked_zeros(mark, [WINDOW], 3 * WINDOW)
+    return [it for it in range(len(text)) if is_candidate(params, text, it)] == [WINDOW + 1]
 
 
 class KnownCut(NamedTuple):
@@ -100,32 +147,32 @@ KNOWN_CUTS = {
     ),
     "input_of_exactly_the_maximum_is_one_chunk": KnownCut(DEFAULTS, bytes(65536), [65536]),
     "candidate_at_the_minimum_cuts": KnownCut(
-        DEFAULTS, zeros_but(120, [2047], 3000), [2048, 952]
+        DEFAULTS, marked_zeros(120, [2047], 3000), [2048, 952]
     ),
     "candidate_before_the_minimum_is_passed_over": KnownCut(
-        DEFAULTS, zeros_but(120, [2046], 3000), [3000]
+        DEFAULTS, marked_zeros(120, [2046], 3000), [3000]
     ),
     "minimum_counts_from_the_last_cut": KnownCut(
-        DEFAULTS, zeros_but(120, [2047, 4094, 6200], 7000), [2048, 4153, 799]
+        DEFAULTS, marked_zeros(120, [2047, 4094, 6200], 7000), [2048, 4153, 799]
     ),
     "least_candidate_cuts": KnownCut(
-        DEFAULTS, zeros_but(120, [3000, 4000], 5000), [3001, 1999]
+        DEFAULTS, marked_zeros(120, [3000, 4000], 5000), [3001, 1999]
     ),
     "candidate_before_the_maximum_cuts": KnownCut(
-        DEFAULTS, zeros_but(120, [65534], 70_000), [65535, 4465]
+        DEFAULTS, marked_zeros(120, [65534], 70_000), [65535, 4465]
     ),
-    "candidate_behind_the_maximum_is_too_late": KnownCut(
-        DEFAULTS, zeros_but(120, [65540], 70_000), [65536, 4464]
+    "candidate_after_the_maximum_is_too_late": KnownCut(
+        DEFAULTS, marked_zeros(120, [65540], 70_000), [65536, 4464]
     ),
     "zeros_are_cut_at_a_given_maximum": KnownCut(SPARSE, bytes(700), [256, 256, 188]),
     "zeros_are_cut_at_a_given_minimum": KnownCut(SPARSE_ZERO, bytes(200), [64, 64, 64, 8]),
-    "given_target_cuts": KnownCut(SPARSE, zeros_but(1, [99], 300), [100, 200]),
+    "given_target_cuts": KnownCut(SPARSE, marked_zeros(1, [99], 300), [100, 200]),
     "candidate_before_a_given_minimum_is_passed_over": KnownCut(
-        SPARSE, zeros_but(1, [62], 200), [200]
+        SPARSE, marked_zeros(1, [62], 200), [200]
     ),
-    "candidate_at_a_given_minimum_cuts": KnownCut(SPARSE, zeros_but(1, [63], 200), [64, 136]),
-    "candidate_behind_a_given_maximum_is_too_late": KnownCut(
-        SPARSE, zeros_but(1, [256], 300), [256, 44]
+    "candidate_at_a_given_minimum_cuts": KnownCut(SPARSE, marked_zeros(1, [63], 200), [64, 136]),
+    "candidate_after_a_given_maximum_is_too_late": KnownCut(
+        SPARSE, marked_zeros(1, [256], 300), [256, 44]
     ),
 }
 
@@ -140,33 +187,36 @@ KNOWN_FINGERPRINTS = [
 ]
 
 
-def fingerprint_bit_by_bit(polynomial, window):
-    rest, degree = 0, polynomial.bit_length() - 1
-    for byte in window:
-        for place in range(7, -1, -1):
-            rest = 2 * rest + (byte >> place & 1)
-            if rest >> degree & 1:
-                rest ^= polynomial
-    return rest
+def compare(what, wanted, came):
+    if wanted != came:
+        raise ValueError(f"{what}: wanted {wanted}, came {came}")
 
 
-def self_test():
-    """Raises a ValueError at the first value that does not come out as it is known."""
-
-    def compare(what, wanted, came):
-        if wanted != came:
-            raise ValueError(f"{what}: wanted {wanted}, came {came}")
-
+def compare_fingerprints():
     for polynomial, window, value in KNOWN_FINGERPRINTS:
         what = f"the fingerprint of {window.hex()} modulo {polynomial:#x}"
         compare(what, value, fingerprint(polynomial, window))
     random = Random(48)
-    for _ in range(200):
+    for degree in range(16, 64):
+        polynomial = 1 << degree | random.getrandbits(degree) | 1
         window = random.randbytes(WINDOW)
-        wanted = fingerprint_bit_by_bit(DEFAULTS.polynomial, window)
-        compare(window.hex(), wanted, fingerprint(DEFAULTS.polynomial, window))
+        wanted = remainder(polynomial, int.from_bytes(window, "big"))
+        compare(f"{window.hex()} modulo {polynomial:#x}", wanted, fingerprint(polynomial, window))
+
+
+def compare_cuts():
     for name, known in KNOWN_CUTS.items():
-        compare(name, known.lengths, lengths_of(known.params, known.text))
+        params, text, lengths = known
+        compare(name, lengths, lengths_of(params, text))
+        candidates = [it for it in range(len(text) + 1) if is_candidate(params, text, it)]
+        by_candidates = lengths_between(params, candidates, len(text))
+        compare(f"{name}, by its candidates", lengths, by_candidates)
+
+
+def self_test():
+    """Raises a ValueError at the first value that does not come out as it is known."""
+    compare_fingerprints()
+    compare_cuts()
 
 
 if __name__ == "__main__":

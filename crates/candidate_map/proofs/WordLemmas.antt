@@ -19,8 +19,9 @@ length-positions_of words bits = length-map-range_with_len (is_set words) 0 bits
 pub length_seen : (words : List ℕ) (bits : ℕ) (seen : List Bool) → positions_of words bits ≡ seen → length seen ≡ bits
 length_seen words bits seen view = ap length (sym view) ∙ length-positions_of words bits
 
--- the set has a position exactly where its bit is set
-pub has-positions_of : (words : List ℕ) (bits p : ℕ) → HoldsBits words bits → has (positions_of words bits) p ≡ is_set words p
+-- the set has a position if its bit is set, and only then
+pub has-positions_of : (words : List ℕ) (bits p : ℕ) → HoldsBits words bits
+    → has (positions_of words bits) p ≡ is_set words p
 unfolding positions_of
 has-positions_of words bits p ok =
     elim (cases_lt p bits) [
@@ -34,14 +35,15 @@ has-positions_of words bits p ok =
 pub word_within : (words : List ℕ) (bits p : ℕ) → HoldsBits words bits → p < bits → p / 64 < length words
 word_within words bits p ok below = let enough : bits ≤ 64 * length words = ok.enough in omega arith
 
-pub bit_read : (words : List ℕ) (bits p word : ℕ) (seen : List Bool) → HoldsBits words bits → positions_of words bits ≡ seen
+pub bit_read : (words : List ℕ) (bits p word : ℕ) (seen : List Bool) → HoldsBits words bits
+    → positions_of words bits ≡ seen
     → word ≡ get_or words (p / 64) 0 → eqb (bit_and (word / 2 ^ (p % 64)) 1) 1 ≡ has seen p
 bit_read words bits p word seen ok view read =
     ap (λ x. eqb x 1) (shr_and_one word (p % 64) ∙ ap (λ w. bit_at w (p % 64)) read)
     ∙ sym (has-positions_of words bits p ok)
     ∙ ap (λ s. has s p) view
 
--- words that are all 0 keep the empty set
+-- words that are all 0 are the empty set
 is_set-replicate : (n p : ℕ) → is_set (replicate n 0) p ≡ false
 is_set-replicate n p =
     let zero_word : get_or (replicate n 0) (p / 64) 0 ≡ 0 =
@@ -59,27 +61,27 @@ positions_of-replicate n bits =
     sym (fill_by_all (is_set (replicate n 0)) (replicate bits false) bits false (length-replicate bits false)
     (λ k below. get_or-replicate bits k false false below ∙ sym (is_set-replicate n k)))
 
--- setting the bit of a position
+-- the words with the bit of a position set
 module _ (words : List ℕ) (p : ℕ) where
-  abbrev pub append_bit : List ℕ
-  append_bit = set words (p / 64) (bit_or (get_or words (p / 64) 0) (1 * 2 ^ (p % 64) % 2 ^ 64))
+  abbrev pub set_bit : List ℕ
+  set_bit = set words (p / 64) (bit_or (get_or words (p / 64) 0) (1 * 2 ^ (p % 64) % 2 ^ 64))
 
-  is_set-append_bit_same : p / 64 < length words → is_set append_bit p ≡ true
-  is_set-append_bit_same within =
-      let word : get_or append_bit (p / 64) 0 ≡ bit_or (get_or words (p / 64) 0) (1 * 2 ^ (p % 64) % 2 ^ 64) =
+  is_set-set_bit_same : p / 64 < length words → is_set set_bit p ≡ true
+  is_set-set_bit_same within =
+      let word : get_or set_bit (p / 64) 0 ≡ bit_or (get_or words (p / 64) 0) (1 * 2 ^ (p % 64) % 2 ^ 64) =
       get_or-set_same words (p / 64) _ 0 within in
-      let bit : bit_at (get_or append_bit (p / 64) 0) (p % 64) ≡ 1 =
+      let bit : bit_at (get_or set_bit (p / 64) 0) (p % 64) ≡ 1 =
       ap (λ x. bit_at x (p % 64)) word ∙ bit_at_set_same w64 (get_or words (p / 64) 0) (p % 64) (omega arith) in
       eq-eqb _ 1 bit
 
-  is_set-append_bit_other : p / 64 < length words → (q : ℕ) → (q ≡ p → ⊥) → is_set append_bit q ≡ is_set words q
-  is_set-append_bit_other within q other =
+  is_set-set_bit_other : p / 64 < length words → (q : ℕ) → (q ≡ p → ⊥) → is_set set_bit q ≡ is_set words q
+  is_set-set_bit_other within q other =
       elim (cases_eq (q / 64) (p / 64)) [
         | inl same ↦
             let place : q % 64 ≡ p % 64 → ⊥ = λ e. other (omega arith) in
-            let word : get_or append_bit (q / 64) 0 ≡ bit_or (get_or words (p / 64) 0) (1 * 2 ^ (p % 64) % 2 ^ 64) =
-            ap (λ i. get_or append_bit i 0) same ∙ get_or-set_same words (p / 64) _ 0 within in
-            let bit : bit_at (get_or append_bit (q / 64) 0) (q % 64) ≡ bit_at (get_or words (q / 64) 0) (q % 64) =
+            let word : get_or set_bit (q / 64) 0 ≡ bit_or (get_or words (p / 64) 0) (1 * 2 ^ (p % 64) % 2 ^ 64) =
+            ap (λ i. get_or set_bit i 0) same ∙ get_or-set_same words (p / 64) _ 0 within in
+            let bit : bit_at (get_or set_bit (q / 64) 0) (q % 64) ≡ bit_at (get_or words (q / 64) 0) (q % 64) =
             ap (λ x. bit_at x (q % 64)) word
             ∙ bit_at_set_other w64 (get_or words (p / 64) 0) (p % 64) (omega arith) (q % 64) place
             ∙ ap (λ i. bit_at (get_or words i 0) (q % 64)) (sym same) in
@@ -91,31 +93,31 @@ module _ (words : List ℕ) (p : ℕ) where
     within : p / 64 < length words
     within = word_within words bits p ok below
 
-    pub HoldsBits-append_bit : HoldsBits append_bit bits
-    HoldsBits-append_bit =
-        let len : length append_bit ≡ length words = length-set words (p / 64) _ in
+    pub HoldsBits-set_bit : HoldsBits set_bit bits
+    HoldsBits-set_bit =
+        let len : length set_bit ≡ length words = length-set words (p / 64) _ in
         record {
           enough = omega (arith, ok.enough);
           no_more = omega (arith, ok.no_more);
-          clear_above = λ q above. is_set-append_bit_other within q (λ e. omega arith) ∙ ok.clear_above q above;
+          clear_above = λ q above. is_set-set_bit_other within q (λ e. omega arith) ∙ ok.clear_above q above;
           in_range = ok.in_range;
         }
 
-    pub positions_of-append_bit : positions_of append_bit bits ≡ set (positions_of words bits) p true
+    pub positions_of-set_bit : positions_of set_bit bits ≡ set (positions_of words bits) p true
     unfolding positions_of
-    positions_of-append_bit =
+    positions_of-set_bit =
         let before : List Bool = map (is_set words) (range_with_len 0 bits) in
         let len : length before ≡ bits = length-map-range_with_len (is_set words) 0 bits in
-        sym (fill_by_all (is_set append_bit) (set before p true) bits false (length-set before p true ∙ len)
+        sym (fill_by_all (is_set set_bit) (set before p true) bits false (length-set before p true ∙ len)
         (λ k inside. elim (cases_eq k p) [
           | inl same ↦
               ap (λ i. get_or (set before p true) i false) same
               ∙ get_or-set_same before p true false (omega arith)
-              ∙ sym (ap (is_set append_bit) same ∙ is_set-append_bit_same within)
+              ∙ sym (ap (is_set set_bit) same ∙ is_set-set_bit_same within)
           | inr other ↦
               get_or-set_other before p k true false other
               ∙ get_or-map-range_with_len (is_set words) 0 bits k k false inside (omega arith)
-              ∙ sym (is_set-append_bit_other within k other)
+              ∙ sym (is_set-set_bit_other within k other)
         ]))
 
 -- the lowest bit of what is left when the bits below a place are shifted out
@@ -149,9 +151,10 @@ lowest_from word from some fits =
       lowest = λ b above below. shifted_to word from b above ∙ found.2 (b - from) (omega arith);
     }
 
--- a walk over the words from position p on, which has come to a place in a word and met nothing yet
+-- a walk over the words from position p on, which has reached the place `from` of the word `index`
+-- and met no set bit yet
 module _ (words : List ℕ) (p index from : ℕ) (before : (q : ℕ) → p ≤ q → q < 64 * index + from → is_set words q ≡ false) where
-  -- a word with no bit from that place on is passed
+  -- a word with no set bit from that place on is passed
   pub pass_word : ((b : ℕ) → from ≤ b → bit_at (get_or words index 0) b ≡ 0)
       → (q : ℕ) → p ≤ q → q < 64 * (index + 1) + 0 → is_set words q ≡ false
   pass_word none q low high =
@@ -162,8 +165,9 @@ module _ (words : List ℕ) (p index from : ℕ) (before : (q : ℕ) → p ≤ q
             ap (λ i. eqb (bit_at (get_or words i 0) (q % 64)) 1) word ∙ ap (λ x. eqb x 1) (none (q % 64) (omega arith))
       ]
 
-  -- past the last word, or the last that is looked at, the set has nothing more
-  pub none_left : (bits end : ℕ) → HoldsBits words bits → min end (length words) ≤ index → (q : ℕ) → p ≤ q → q < 64 * end → ¬ Has (positions_of words bits) q
+  -- past the last word, or the last that is read, the set has no position
+  pub none_left : (bits end : ℕ) → HoldsBits words bits → min end (length words) ≤ index
+      → (q : ℕ) → p ≤ q → q < 64 * end → ¬ Has (positions_of words bits) q
   none_left bits end ok past_end q low high member =
       let set : is_set words q ≡ true = sym (has-positions_of words bits q ok) ∙ member in
       elim (cases_lt q (64 * index + from)) [

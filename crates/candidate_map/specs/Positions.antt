@@ -1,8 +1,8 @@
--- A set of positions below some number of bits, seen as one boolean a position, from position 0 on: the bit map that the
--- first stage of SS-CDC (SYSTOR 2019) fills and its second stage walks.
+-- A set of positions below some number of bits, seen as one boolean a position, from position 0 on:
+-- the bit map that the first stage of SS-CDC (SYSTOR 2019) fills and its second stage walks.
 use Rattle.std.specs.Prelude.{ℕ, ◌≤◌, ◌<◌, Bool, false, IsTrue, List, length, slice_index_or}
 
--- whether a position is in the set; none is that does not lie below the number of bits
+-- whether a position is in the set; none at or above the number of bits is
 abbrev pub has : List Bool → ℕ → Bool
 has positions p = slice_index_or positions p false
 

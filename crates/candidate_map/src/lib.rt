@@ -1,9 +1,8 @@
-//! The bit maps that stand between the two stages of cutting: the first stage marks the candidates of a text in such a
-//! map, the second walks it. A map is seen as the set of its positions. It stands on `sd_base` alone.
+//! The bit map between the two stages of cutting: the first stage marks the candidates of a text in
+//! it, and the second stage walks it. Contracts see a map as the set of its positions. The crate
+//! uses `sd_base` alone.
 #![tactic(auto)]
 
 mod plain_map;
-#[cfg(test)]
-mod tests;
 
 pub use plain_map::PlainMap;

@@ -7,11 +7,12 @@ use sd_base::OutOfMemory;
 use std::alloc::Global;
 use std::marker::Model;
 
-/// The bits of a word of a map.
+/// How many bits a word of a map has.
 const WORD_BITS: u32 = 64;
 
-/// A set of positions below a number of bits that is fixed when the map is made: the bit map between the two stages of
-/// SS-CDC (SYSTOR 2019). A clause sees it as a list with one boolean a position. It is kept in words of 64 bits.
+/// A set of positions below a number of bits that is fixed when the map is made: the bit map
+/// between the two stages of SS-CDC (SYSTOR 2019). A clause sees it as a list with one boolean a
+/// position. It is kept in words of 64 bits.
 #[derive(Debug, Drop)]
 pub struct PlainMap {
     words: Vec<u64>,
@@ -30,7 +31,7 @@ impl Model for PlainMap {
 }
 
 impl PlainMap {
-    /// The empty set of positions below `bits`.
+    /// The empty set of positions below `bits`. It fails only if memory runs out.
     pub fn new(alloc: Global, bits: u32) -> Result<PlainMap, OutOfMemory>
         ensures empty { IfOk result (λ map. map ≡ replicate bits false) }
     {
@@ -40,29 +41,29 @@ impl PlainMap {
 
     /// The number of bits: all positions of the set lie below it.
     pub fn bits(&self) -> u32
-        ensures { result ≡ length self.now }
+        ensures bits { result ≡ length self.now }
     {
         self.bits
     }
 
     /// Whether a position is in the set.
     pub fn get(&self, p: u32) -> bool
-        requires { p < length self.now }
-        ensures { result ≡ has self.now p }
+        requires inside { p < length self.now }
+        ensures member { result ≡ has self.now p }
     {
         (self.words[(p / WORD_BITS) as usize] >> (p % WORD_BITS)) & 1 == 1
     }
 
     /// Adds a position to the set, and changes nothing else of it. It takes no memory.
     pub fn set(&mut self, p: u32)
-        requires { p < length self.old }
-        ensures { self.new ≡ slice_set self.old p true }
+        requires inside { p < length self.old }
+        ensures added { self.new ≡ slice_set self.old p true }
     {
         self.words[(p / WORD_BITS) as usize] |= 1 << (p % WORD_BITS);
     }
 
-    /// The least position of the set that is at or above `p`, which may be any number. It goes word by word, and takes
-    /// no memory.
+    /// The least position of the set that is at or above `p`, which may be any number. It goes word
+    /// by word, and takes no memory.
     pub fn next_from(&self, p: u32) -> Option<u32>
         ensures first { IfSome result (IsFirstFrom self.now p) }
         ensures none { IsNone result ↔ NoneFrom self.now p }
@@ -70,7 +71,8 @@ impl PlainMap {
         self.next_within(p, self.bits)
     }
 
-    /// The same, where it is not above `last`, which may be any number. It looks at no word behind that of `last`.
+    /// The same, if that position is not above `last`, which may be any number. It reads no word
+    /// after that of `last`.
     pub fn next_within(&self, p: u32, last: u32) -> Option<u32>
         ensures first { IfSome result (IsFirstFrom self.now p) }
         ensures within { IfSome result (λ first. first ≤ last) }
@@ -82,10 +84,10 @@ impl PlainMap {
         }
     }
 
-    /// The same, where it is in one of the first words.
+    /// The same, if that position is in one of the first `words` words.
     fn next_in_words(&self, p: u32, words: usize) -> Option<u32>
         ensures first { IfSome result (IsFirstFrom self.now p) }
-        ensures none { IfNone result ((q : ℕ) → p ≤ q → q < 64 * words → ¬ Has self.now q) }
+        ensures none { IfNone result ((q : ℕ) → p ≤ q → q < WORD_BITS * words → ¬ Has self.now q) }
     {
         let mut from = p % WORD_BITS;
         for index in (p / WORD_BITS) as usize..words.min(self.words.len()) {
@@ -98,9 +100,9 @@ impl PlainMap {
     }
 }
 
-/// The lowest set bit of a word that is at or above a place.
+/// The lowest set bit of a word that is at or above the place `from`.
 fn lowest_from(word: u64, from: u32) -> Option<u32>
-    requires { from < 64 }
+    requires in_word { from < WORD_BITS }
     ensures found { IfSome result (IsLowestFrom word from) }
     ensures none { IfNone result ((b : ℕ) → from ≤ b → bit_at word b ≡ 0) }
 {
@@ -111,3 +113,6 @@ fn lowest_from(word: u64, from: u32) -> Option<u32>
         Some(from + rest.trailing_zeros())
     }
 }
+
+#[cfg(test)]
+mod tests;

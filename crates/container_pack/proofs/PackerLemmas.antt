@@ -1,24 +1,22 @@
 -- The containers of a packer while a chunk is appended.
-use Rattle.std.proofs.Common.{◌≡◌, ◌≢◌, inl, inr, ℕ, ◌+◌, ◌<◌, ◌≤◌, List, [], ◌∷◌, ◌++◌, length, map, take, get_or, refl, sym, ap, ◌∙◌, subst, arith}
+use Rattle.std.proofs.Common.{◌≡◌, ◌≢◌, inl, inr, ℕ, ◌+◌, ◌<◌, ◌≤◌, List, [], ◌∷◌, ◌++◌, length, map, get_or, refl, sym, ap, ◌∙◌, subst, arith}
 use Rattle.std.specs.Prelude.{Option, Result, Ok, Err, OnErr}
 use Rattle.std.proofs.lemmas.Bool.{cases_eq}
 use Rattle.std.proofs.lemmas.List.{get_or_default, get_or_past, append-nil, length_push, map_push}
 use Rattle.std.proofs.lemmas.List.Elements.{All-push}
-use Rattle.edge_traits.specs.declared.fault.EdgeFault.{EdgeFault}
-use Rattle.edge_traits.specs.declared.fault.EdgeFault.TheVariants.{Failed, OutOfMemory}
 use Rattle.sd_base.specs.Packing.{header_of, packing}
 use Rattle.edge_traits.specs.declared.shelf.File.{File}
 use Rattle.edge_traits.specs.declared.shelf.File.TheVariants.{Container}
-use Rattle.edge_traits.specs.Shelf.{content, SameFiles, ChangesOnly, Appended, AppendedPrefix}
+use Rattle.edge_traits.specs.Shelf.{content, ChangesOnly}
 use Rattle.container_pack.specs.declared.packer.Packer.{Packer}
 use Rattle.container_pack.specs.declared.spot.Spot.{Spot}
 use Rattle.container_pack.specs.declared.fill.Fill.{Fill}
 use Rattle.container_pack.specs.Spots.{nothing_filled, filled_by, filled_on, last_spot, spots_on, spots_of, LiesAt}
-use Rattle.container_pack.specs.Containers.{Begins, HasOnly, ContainersBegin}
-use Rattle.container_pack.specs.Packer.{next_spot, IsBehind, StandsBehind, StandBefore}
+use Rattle.container_pack.specs.Containers.{Begins, HasOnly, ContainersBegin, AppendedAt, KeepsFront}
+use Rattle.container_pack.specs.Packer.{next_spot, next_file, OpensContainer, IsBehind, StandsBehind}
 use Rattle.container_pack.proofs.PackingLemmas.{Chunks}
 use Rattle.container_pack.proofs.PushLemmas.{Pushed, Filled, filled}
-use Rattle.container_pack.proofs.ShelfLemmas.{Begins-same, Begins-only, Begins-append, HasOnly-append}
+use Rattle.container_pack.proofs.ShelfLemmas.{Begins-same, Begins-only, Begins-front, HasOnly-at}
 
 abbrev pub Files : Type 0
 Files = Option (File → List ℕ)
@@ -27,7 +25,7 @@ Files = Option (File → List ℕ)
 pub Container-apart : (generation k j : ℕ) → k ≢ j → Container generation k ≢ Container generation j
 Container-apart generation k j apart same = apart (cc same)
 
--- the containers stand as they stood, where only one file has changed and begins as it did
+-- only one file has changed, and it begins as it did
 pub ContainersBegin-refused : (before after : Files) (generation at : ℕ) (containers : Chunks) → ContainersBegin before generation containers
     → (at < length containers → Begins (content after (Container generation at)) (get_or containers at []))
     → ((f : File) → f ≢ Container generation at → content after f ≡ content before f)
@@ -39,7 +37,7 @@ ContainersBegin-refused before after generation at containers begin here others 
       (others (Container generation k) (Container-apart generation k at apart)) (begin k inside)
 ]
 
--- the containers begin with one chunk more, where the file of its spot ends with it
+-- the containers begin with one more chunk, if the file of its spot ends with it
 pub ContainersBegin-pushed : (before after : Files) (generation : ℕ) (old new : Chunks) (spot : Spot) (chunk : List ℕ) → ContainersBegin before generation old
     → Pushed old new spot chunk
     → HasOnly (content after (Container generation spot.container)) (get_or new spot.container [])
@@ -59,37 +57,12 @@ ContainersBegin-pushed before after generation old new spot chunk begin pushed o
 
 module _ (packer : Packer) (files : Files) (chunks : Chunks) where
   pub filled_behind : IsBehind packer (map length chunks) → Filled chunks packer.fill
-  filled_behind behind = subst (λ f. Filled chunks f) (sym behind.fill) (filled chunks behind.some)
+  filled_behind behind = subst (λ f. Filled chunks f) (sym behind.fill) (filled chunks behind.none_empty)
 
   -- where the next chunk goes
   pub pushed_behind : (chunk : List ℕ) → 1 ≤ length chunk → IsBehind packer (map length chunks)
       → Pushed (packing chunks) (packing (chunks ++ chunk ∷ [])) (next_spot packer (length chunk)) chunk
   pushed_behind chunk some behind = (filled_behind behind).pushed chunk some
-
-  -- what is to stand before it
-  pub StandBefore-next : (chunk : List ℕ) → 1 ≤ length chunk → StandsBehind packer files chunks
-      → StandBefore packer files (next_spot packer (length chunk)) (get_or (packing chunks) (next_spot packer (length chunk)).container (header_of (next_spot packer (length chunk)).container))
-  StandBefore-next chunk some stands =
-      let spot : Spot = next_spot packer (length chunk) in
-      let pushed : Pushed (packing chunks) (packing (chunks ++ chunk ∷ [])) spot chunk = pushed_behind chunk some stands.behind in
-      let count : packer.fill.containers ≡ length (packing chunks) = (filled_behind stands.behind).containers in
-      record {
-        offset = pushed.offset;
-        new_one = λ at. new_one spot.container (omega (arith, at, count));
-        begins = λ apart.
-            let inside : spot.container < length (packing chunks) = omega (arith, apart, count, pushed.near) in
-            subst (λ (l : List ℕ). Begins (content files (Container packer.generation spot.container)) l) (other_default spot.container inside) (stands.begin spot.container inside);
-        no_tail = λ apart cut.
-            let inside : spot.container < length (packing chunks) = omega (arith, apart, count, pushed.near) in
-            subst (λ (l : List ℕ). HasOnly (content files (Container packer.generation spot.container)) l) (other_default spot.container inside)
-            (stands.no_tail cut spot.container (omega (arith, inside, pushed.no_more)));
-      }
-    where
-      new_one : (k : ℕ) → length (packing chunks) ≤ k → get_or (packing chunks) k (header_of k) ≡ header_of k
-      new_one k past = get_or_past (packing chunks) k (header_of k) past
-
-      other_default : (k : ℕ) → k < length (packing chunks) → get_or (packing chunks) k [] ≡ get_or (packing chunks) k (header_of k)
-      other_default k inside = get_or_default (packing chunks) k [] (header_of k) inside
 
   pub LiesAt-next : (chunk : List ℕ) → 1 ≤ length chunk → IsBehind packer (map length chunks)
       → LiesAt (packing (chunks ++ chunk ∷ [])) (next_spot packer (length chunk)) chunk
@@ -125,79 +98,65 @@ pub IsBehind-next : (packer next : Packer) (lengths : List ℕ) (n : ℕ) → 1 
 IsBehind-next packer next lengths n some count fill behind = record {
   count = omega (arith, count, behind.count, length_push lengths n);
   fill = fill ∙ ap (λ (f : Fill). filled_by f n) behind.fill ∙ sym (filled_on-push nothing_filled lengths n);
-  some = All-push (λ m. 1 ≤ m) lengths n behind.some some;
+  none_empty = All-push (λ m. 1 ≤ m) lengths n behind.none_empty some;
 }
 
-module _ (packer : Packer) (before ready after : Files) (chunk : List ℕ) (spot : Spot) (at : spot ≡ next_spot packer (length chunk)) (some : 1 ≤ length chunk)
-    (ready_file : (had : List ℕ) → StandBefore packer before spot had → HasOnly (content ready (Container packer.generation spot.container)) had)
-    (ready_others : ChangesOnly (Container packer.generation spot.container) before ready)
-    (after_others : ChangesOnly (Container packer.generation spot.container) ready after)
+module _ (packer : Packer) (before after : Files) (chunk : List ℕ) (some : 1 ≤ length chunk)
+    (others : ChangesOnly (next_file packer (length chunk)) before after)
     (chunks : Chunks) (stands : StandsBehind packer before chunks) where
+  abbrev pub spot : Spot
+  spot = next_spot packer (length chunk)
+
   abbrev pub file : File
-  file = Container packer.generation spot.container
+  file = next_file packer (length chunk)
 
   abbrev pub had : List ℕ
   had = get_or (packing chunks) spot.container (header_of spot.container)
 
-  ready_with : HasOnly (content ready file) had
-  ready_with = ready_file had
-      (subst (λ (s : Spot). StandBefore packer before s (get_or (packing chunks) s.container (header_of s.container))) (sym at) (StandBefore-next packer before chunks chunk some stands))
-
-  no_others : ChangesOnly file before after
-  no_others = λ f apart. after_others f apart ∙ ready_others f apart
-
   pushed : Pushed (packing chunks) (packing (chunks ++ chunk ∷ [])) spot chunk
-  pushed = subst (λ (s : Spot). Pushed (packing chunks) (packing (chunks ++ chunk ∷ [])) s chunk) (sym at) (pushed_behind packer before chunks chunk some stands.behind)
+  pushed = pushed_behind packer before chunks chunk some stands.behind
 
-  -- the piece is appended, and its container ends with it
-  pub HasOnly-next : Appended file chunk ready after → HasOnly (content after file) (get_or (packing (chunks ++ chunk ∷ [])) spot.container [])
-  HasOnly-next appended =
-      subst (λ (l : List ℕ). HasOnly (content after file) l) (sym pushed.grown) (HasOnly-append (content ready file) (content after file) had chunk ready_with appended)
+  count : packer.fill.containers ≡ length (packing chunks)
+  count = (filled_behind packer before chunks stands.behind).containers
 
+  -- the open container begins with what it had
+  begins : ¬ OpensContainer packer (length chunk) → Begins (content before file) had
+  begins open_one =
+      let inside : spot.container < length (packing chunks) = omega (arith, open_one, count, pushed.near) in
+      subst (λ (l : List ℕ). Begins (content before file) l) (get_or_default (packing chunks) spot.container [] (header_of spot.container) inside) (stands.begin spot.container inside)
+
+  -- the file ends with the chunk
+  pub HasOnly-next : (OpensContainer packer (length chunk) → HasOnly (content after file) (header_of spot.container ++ chunk))
+      → (¬ OpensContainer packer (length chunk) → AppendedAt file spot.offset chunk before after)
+      → HasOnly (content after file) (get_or (packing (chunks ++ chunk ∷ [])) spot.container [])
+  HasOnly-next opened at_spot = subst (λ (l : List ℕ). HasOnly (content after file) l) (sym pushed.grown) (elim (cases_eq spot.container packer.fill.containers) [
+    | inl same ↦
+        let new_one : had ≡ header_of spot.container = get_or_past (packing chunks) spot.container (header_of spot.container) (omega (arith, same, count)) in
+        subst (λ (l : List ℕ). HasOnly (content after file) (l ++ chunk)) (sym new_one) (opened same)
+    | inr apart ↦ HasOnly-at (content before file) (content after file) had chunk spot.offset pushed.offset (begins apart) (at_spot apart)
+  ])
+
+  -- the packer after the chunk stands behind it as well
   pub StandsBehind-next : (next : Packer) → next.generation ≡ packer.generation → next.chunks ≡ packer.chunks + 1 → next.fill ≡ filled_by packer.fill (length chunk)
-      → Appended file chunk ready after → StandsBehind next after (chunks ++ chunk ∷ [])
-  StandsBehind-next next generation count fill appended =
-      let only : HasOnly (content after file) (get_or (packing (chunks ++ chunk ∷ [])) spot.container []) = HasOnly-next appended in
-      record {
-        behind = subst (λ (l : List ℕ). IsBehind next l) (sym (map_push (λ (c : List ℕ). length c) chunks chunk))
-            (IsBehind-next packer next (map length chunks) (length chunk) some count fill stands.behind);
-        begin = subst (λ (n : ℕ). ContainersBegin after n (packing (chunks ++ chunk ∷ []))) (sym generation)
-            (ContainersBegin-pushed before after packer.generation (packing chunks) (packing (chunks ++ chunk ∷ [])) spot chunk stands.begin pushed only no_others);
-        no_tail = λ cut last at.
-            let here : spot.container ≡ last = omega (arith, at, pushed.count) in
-            subst (λ (n : ℕ). HasOnly (content after (Container n last)) (get_or (packing (chunks ++ chunk ∷ [])) last [])) (sym generation)
-            (subst (λ (n : ℕ). HasOnly (content after (Container packer.generation n)) (get_or (packing (chunks ++ chunk ∷ [])) n [])) here only);
-      }
+      → HasOnly (content after file) (get_or (packing (chunks ++ chunk ∷ [])) spot.container []) → StandsBehind next after (chunks ++ chunk ∷ [])
+  StandsBehind-next next generation one_more fill only = record {
+    behind = subst (λ (l : List ℕ). IsBehind next l) (sym (map_push (λ (c : List ℕ). length c) chunks chunk))
+        (IsBehind-next packer next (map length chunks) (length chunk) some one_more fill stands.behind);
+    begin = subst (λ (n : ℕ). ContainersBegin after n (packing (chunks ++ chunk ∷ []))) (sym generation)
+        (ContainersBegin-pushed before after packer.generation (packing chunks) (packing (chunks ++ chunk ∷ [])) spot chunk stands.begin pushed only others);
+  }
 
-  after_refusal : (fault : EdgeFault) → (fault ≡ Failed → AppendedPrefix file chunk ready after) → (fault ≡ OutOfMemory → SameFiles ready after)
-      → Begins (content ready file) had → Begins (content after file) had
-  after_refusal Failed prefix same begins = let p = prefix refl in Begins-append (content ready file) (content after file) had (take p.0 chunk) begins p.2
-  after_refusal OutOfMemory prefix same begins = Begins-same (content ready file) (content after file) had (same refl file) begins
-
-  -- the piece is refused
-  pub ContainersBegin-refused_append : (fault : EdgeFault) → (fault ≡ Failed → AppendedPrefix file chunk ready after) → (fault ≡ OutOfMemory → SameFiles ready after)
+  -- the chunk is refused
+  pub ContainersBegin-refused_chunk : (¬ OpensContainer packer (length chunk) → KeepsFront file spot.offset before after)
       → ContainersBegin after packer.generation (packing chunks)
-  ContainersBegin-refused_append fault prefix same =
+  ContainersBegin-refused_chunk kept =
       ContainersBegin-refused before after packer.generation spot.container (packing chunks) stands.begin
-      (λ inside. subst (λ (l : List ℕ). Begins (content after file) l) (get_or_default (packing chunks) spot.container (header_of spot.container) [] inside)
-      (after_refusal fault prefix same (Begins-only (content ready file) had ready_with)))
-      no_others
-
--- making the container ready is refused
-pub ContainersBegin-not_ready : (packer : Packer) (before after : Files) (chunk : List ℕ) (spot : Spot) → spot ≡ next_spot packer (length chunk) → 1 ≤ length chunk
-    → ((had : List ℕ) → StandBefore packer before spot had → spot.container ≢ packer.fill.containers → Begins (content after (Container packer.generation spot.container)) had)
-    → ChangesOnly (Container packer.generation spot.container) before after
-    → (chunks : Chunks) → StandsBehind packer before chunks → ContainersBegin after packer.generation (packing chunks)
-ContainersBegin-not_ready packer before after chunk spot at some kept others chunks stands =
-    let file : File = Container packer.generation spot.container in
-    let had : List ℕ = get_or (packing chunks) spot.container (header_of spot.container) in
-    let before_it : StandBefore packer before spot had =
-    subst (λ (s : Spot). StandBefore packer before s (get_or (packing chunks) s.container (header_of s.container))) (sym at) (StandBefore-next packer before chunks chunk some stands) in
-    let count : packer.fill.containers ≡ length (packing chunks) = (filled_behind packer before chunks stands.behind).containers in
-    ContainersBegin-refused before after packer.generation spot.container (packing chunks) stands.begin
-    (λ inside. subst (λ (l : List ℕ). Begins (content after file) l) (get_or_default (packing chunks) spot.container (header_of spot.container) [] inside)
-    (kept had before_it (λ same. absurd (omega (arith, same, count, inside)))))
-    others
+      (λ inside.
+      let open_one : ¬ OpensContainer packer (length chunk) = λ same. absurd (omega (arith, same, count, inside)) in
+      let front = kept open_one in
+      subst (λ (l : List ℕ). Begins (content after file) l) (get_or_default (packing chunks) spot.container (header_of spot.container) [] inside)
+      (Begins-front (content before file) (content after file) had front.0 spot.offset pushed.offset (begins open_one) front.1))
+      others
 
 pub on_err : {T E P : Type 0} (r : Result T E) → P → OnErr r P
 on_err (Ok x) p = tt

@@ -1,4 +1,4 @@
--- Chunks packed on, one after another.
+-- Chunks packed one after another, and what `packing` comes to: full containers and an open one.
 use Rattle.std.proofs.Common.{◌≡◌, inl, inr, ℕ, zero, suc, ◌+◌, ◌<◌, ◌≤◌, List, [], ◌∷◌, ◌++◌, length, map, get_or, refl, sym, ap, ◌∙◌, subst, append_assoc, arith, length-append}
 use Rattle.std.proofs.lemmas.List.{append-nil}
 use Rattle.std.proofs.lemmas.Bool.Decides.{leb_tells, nat_tests}
@@ -9,9 +9,6 @@ use Rattle.container_pack.specs.Spots.{filled_by, filled_on}
 
 abbrev pub Chunks : Type 0
 Chunks = List (List ℕ)
-
-pub length-header_of : (number : ℕ) → length (header_of number) ≡ 8
-length-header_of number = refl
 
 abbrev pub fill_at : ℕ → List ℕ → Fill
 fill_at number open_one = record { containers = number + 1; used = length open_one }
@@ -33,7 +30,7 @@ pub filled_by-opens : (fill : Fill) (n : ℕ) → MAX_CONTAINER < fill.used + n
     → filled_by fill n ≡ record { containers = fill.containers + 1; used = CONTAINER_HEADER + n }
 filled_by-opens fill n full = grind (arith, nat_tests)
 
--- Where packing on comes to: the containers that are full, and the last one, to which more is packed on.
+-- What packing comes to: the containers that are full, and the last one, to which more is packed.
 pub record Reach (number : ℕ) (open_one : List ℕ) (chunks : Chunks) : Type 0 where
   pub full : Chunks
   pub last : List ℕ
@@ -79,7 +76,7 @@ reach number open_one (chunk ∷ chunks) = elim (leb_tells (length open_one + le
       }
 ]
 
--- what is packed on begins with the container that was open
+-- what is packed begins with the container that was open
 pub record Extends (open_one : List ℕ) (containers : Chunks) : Type 0 where
   pub rest : List ℕ
   pub others : Chunks
@@ -104,7 +101,7 @@ extends number open_one (chunk ∷ chunks) = elim (leb_tells (length open_one + 
       }
 ]
 
--- the same list, but that its last one may be longer and that others may stand behind it
+-- the same list, except that its last container may be longer and that others may follow it
 pub ArePrefixes-same_front : (full : Chunks) (last rest : List ℕ) (others : Chunks) → ArePrefixes (full ++ last ∷ []) (full ++ (last ++ rest) ∷ others)
 ArePrefixes-same_front [] last rest others = record {
   no_fewer = omega arith;

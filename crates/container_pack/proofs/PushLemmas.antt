@@ -1,4 +1,4 @@
--- One chunk more, and what it does to the containers.
+-- What one more chunk does to the containers.
 use Rattle.std.proofs.Common.{◌≡◌, inl, inr, ℕ, ◌+◌, ◌<◌, ◌≤◌, List, [], ◌∷◌, ◌++◌, length, map, get_or, refl, sym, ap, ◌∙◌, subst, append_assoc, arith, length-append}
 use Rattle.std.specs.Prelude.{All}
 use Rattle.std.proofs.lemmas.List.{get_or_append_left, get_or_at, get_or_past}
@@ -11,8 +11,8 @@ use Rattle.container_pack.specs.Spots.{nothing_filled, filled_by, filled_on, las
 use Rattle.container_pack.proofs.PackingLemmas.{Chunks, fill_at, packed_on-fits, packed_on-opens, filled_by-fits, filled_by-opens, reach}
 use Rattle.container_pack.proofs.SpotLemmas.{filled_by-first}
 
--- The chunk stands at the end of the container of the spot, behind what was there or behind the header of a new
--- container, and nothing else has changed.
+-- The chunk is at the end of the container of the spot, after what was there or after the header of a new container, and
+-- nothing else has changed.
 pub record Pushed (before after : Chunks) (spot : Spot) (chunk : List ℕ) : Type 0 where
   pub near : spot.container ≤ length before
   pub no_more : length before ≤ spot.container + 1
@@ -71,7 +71,7 @@ Pushed-on full last chunk = elim (leb_tells (length last + length chunk) MAX_CON
       (Pushed-opens (full ++ last ∷ []) chunk spot (omega (arith, length-append full (last ∷ []))) (omega arith)))
 ]
 
--- what is filled, in the words of the containers
+-- what a fill says of the containers
 pub record Filled (chunks : Chunks) (fill : Fill) : Type 0 where
   pub containers : fill.containers ≡ length (packing chunks)
   pub pushed : (chunk : List ℕ) → 1 ≤ length chunk
@@ -102,7 +102,7 @@ Filled-nothing = record {
       (Pushed-opens [] chunk (last_spot fill (length chunk)) refl (omega arith));
 }
 
--- the fill behind the lengths of chunks, none of them empty
+-- the fill after chunks, none of them empty
 pub filled : (chunks : Chunks) → All (λ n. 1 ≤ n) (map length chunks) → Filled chunks (filled_on nothing_filled (map length chunks))
 filled [] some = Filled-nothing
 filled (first ∷ chunks) some =

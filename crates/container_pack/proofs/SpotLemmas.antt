@@ -1,4 +1,4 @@
--- Where chunks lie, against the containers that they are packed into.
+-- The spots that follow from the lengths are where the chunks lie: the law `chunks_lie_at_their_spots`.
 use Rattle.std.proofs.Common.{◌≡◌, inl, inr, ℕ, ◌+◌, ◌<◌, ◌≤◌, List, [], ◌∷◌, ◌++◌, length, map, get_or, sym, ap, ◌∙◌, subst, arith, length-append, add-one}
 use Rattle.std.specs.Prelude.{All}
 use Rattle.std.proofs.lemmas.Bool.Decides.{leb_tells}
@@ -9,7 +9,7 @@ use Rattle.container_pack.specs.declared.spot.Spot.{Spot}
 use Rattle.container_pack.specs.Spots.{nothing_filled, filled_by, last_spot, spots_on, spots_of, LieAt}
 use Rattle.container_pack.proofs.PackingLemmas.{Chunks, fill_at, packed_on-fits, packed_on-opens, filled_by-fits, filled_by-opens, extends}
 
--- the fill behind a chunk that fits, and behind one that opens the next container
+-- the fill after a chunk that fits, and after one that opens the next container
 pub fill_at-fits : (number : ℕ) (open_one chunk : List ℕ) → length open_one + length chunk ≤ MAX_CONTAINER
     → filled_by (fill_at number open_one) (length chunk) ≡ fill_at number (open_one ++ chunk)
 fill_at-fits number open_one chunk fits =
@@ -27,7 +27,7 @@ filled_by-first chunk some =
     filled_by-opens nothing_filled (length chunk) (omega arith)
     ∙ ap (λ (n : ℕ). let f : Fill = record { containers = 1; used = n } in f) (sym (length-append (header_of 0) chunk))
 
--- the chunk lies at the spot, where the first container of the list has this number
+-- the chunk lies at the spot, if the first container of the list has this number
 pub record LiesFrom (number : ℕ) (containers : Chunks) (spot : Spot) (chunk : List ℕ) : Type 0 where
   pub at : ℕ
   pub container : spot.container ≡ number + at
@@ -43,9 +43,9 @@ LieFrom number containers (spot ∷ spots) (chunk ∷ chunks) = LiesFrom number 
 LieFrom number containers [] (chunk ∷ chunks) = ⊥
 LieFrom number containers (spot ∷ spots) [] = ⊥
 
-LiesFrom-behind : (number : ℕ) (first : List ℕ) (containers : Chunks) (spot : Spot) (chunk : List ℕ)
+LiesFrom-later : (number : ℕ) (first : List ℕ) (containers : Chunks) (spot : Spot) (chunk : List ℕ)
     → LiesFrom (number + 1) containers spot chunk → LiesFrom number (first ∷ containers) spot chunk
-LiesFrom-behind number first containers spot chunk lies = record {
+LiesFrom-later number first containers spot chunk lies = record {
   at = lies.at + 1;
   container = omega (arith, lies.container);
   inside = omega (arith, lies.inside);
@@ -55,13 +55,13 @@ LiesFrom-behind number first containers spot chunk lies = record {
   offset = lies.offset;
 }
 
-LieFrom-behind : (number : ℕ) (first : List ℕ) (containers : Chunks) (spots : List Spot) (chunks : Chunks)
+LieFrom-later : (number : ℕ) (first : List ℕ) (containers : Chunks) (spots : List Spot) (chunks : Chunks)
     → LieFrom (number + 1) containers spots chunks → LieFrom number (first ∷ containers) spots chunks
-LieFrom-behind number first containers [] [] lie = tt
-LieFrom-behind number first containers (spot ∷ spots) (chunk ∷ chunks) lie =
-    (LiesFrom-behind number first containers spot chunk lie.0, LieFrom-behind number first containers spots chunks lie.1)
-LieFrom-behind number first containers [] (chunk ∷ chunks) lie = absurd lie
-LieFrom-behind number first containers (spot ∷ spots) [] lie = absurd lie
+LieFrom-later number first containers [] [] lie = tt
+LieFrom-later number first containers (spot ∷ spots) (chunk ∷ chunks) lie =
+    (LiesFrom-later number first containers spot chunk lie.0, LieFrom-later number first containers spots chunks lie.1)
+LieFrom-later number first containers [] (chunk ∷ chunks) lie = absurd lie
+LieFrom-later number first containers (spot ∷ spots) [] lie = absurd lie
 
 -- a chunk at the end of the container that is open
 LiesFrom-last : (number : ℕ) (front chunk : List ℕ) (chunks : Chunks)
@@ -93,8 +93,8 @@ spots_on-lie number open_one (chunk ∷ chunks) =
           let next : List ℕ = header_of (number + 1) in
           let rest : Chunks = packed_on (number + 1) (next ++ chunk) chunks in
           let lie : Goal (fill_at (number + 1) (next ++ chunk)) (open_one ∷ rest) = (
-            LiesFrom-behind number open_one rest (last_spot (fill_at (number + 1) (next ++ chunk)) (length chunk)) chunk (LiesFrom-last (number + 1) next chunk chunks),
-            LieFrom-behind number open_one rest (spots_on (fill_at (number + 1) (next ++ chunk)) (map length chunks)) chunks (spots_on-lie (number + 1) (next ++ chunk) chunks),
+            LiesFrom-later number open_one rest (last_spot (fill_at (number + 1) (next ++ chunk)) (length chunk)) chunk (LiesFrom-last (number + 1) next chunk chunks),
+            LieFrom-later number open_one rest (spots_on (fill_at (number + 1) (next ++ chunk)) (map length chunks)) chunks (spots_on-lie (number + 1) (next ++ chunk) chunks),
           ) in
           subst (λ (l : Chunks). Goal (filled_by (fill_at number open_one) (length chunk)) l) (sym (packed_on-opens number open_one chunk chunks none.1))
           (subst (λ (f : Fill). Goal f (open_one ∷ rest)) (sym (fill_at-opens number open_one chunk none.1)) lie)

@@ -5,8 +5,8 @@ ghost use Rattle.container_pack.specs.Spots.{nothing_filled, filled_by, last_spo
 use crate::Spot;
 use sd_base::{CONTAINER_HEADER, MAX_CHUNK_LEN, MAX_CONTAINER};
 
-/// How many containers there are, and the bytes of the last of them. Where there is none, the next chunk opens one, as
-/// behind a full one.
+/// How many containers there are, and the bytes of the last of them. If there is none, the next chunk opens one, as after
+/// a full one.
 #[derive(Clone, Copy)]
 pub(crate) struct Fill {
     pub(crate) containers: u32,
@@ -24,18 +24,18 @@ impl Fill {
         }
     }
 
-    /// With a chunk of this length more.
+    /// The fill after one more chunk, of this length.
     pub(crate) fn with_chunk(self, length: u32) -> Self
         requires sound { IsSound self }
-        requires some { 1 ≤ length }
+        requires not_empty { 1 ≤ length }
         requires bounded { length ≤ MAX_CHUNK_LEN }
-        requires containers { self.containers < 2 ^ 32 - 1 }
+        requires countable { self.containers < 2 ^ 32 - 1 }
 
         ensures filled { result ≡ filled_by self length }
         ensures sound { IsSound result }
-        ensures some { 0 < result.containers }
-        ensures behind { length ≤ result.used }
-        ensures containers { result.containers ≤ self.containers + 1 }
+        ensures not_empty { 0 < result.containers }
+        ensures holds_chunk { length ≤ result.used }
+        ensures at_most_one_more { result.containers ≤ self.containers + 1 }
     {
         if self.used + length <= MAX_CONTAINER {
             Fill {
@@ -50,10 +50,10 @@ impl Fill {
         }
     }
 
-    /// Where the last chunk lies, whose length this is.
+    /// The spot of the last chunk, whose length this is.
     pub(crate) fn last_spot(self, length: u32) -> Spot
-        requires some { 0 < self.containers }
-        requires length { length ≤ self.used }
+        requires not_empty { 0 < self.containers }
+        requires holds_chunk { length ≤ self.used }
         ensures { result ≡ last_spot self length }
     {
         Spot {

@@ -1,20 +1,20 @@
-//! Laws of the packing of chunks: each is the contract of a function that does nothing.
+//! Laws of the packing of chunks. Each is the contract of a function that does nothing.
 
 ghost use Rattle.container_pack.specs.Laws.{ChunksLieAtTheirSpots, LongerListsOnlyExtend, PackingIsByGroups};
 
-/// The containers of a list of chunks are prefixes of those of every longer list that begins with it.
+/// The containers of a list of chunks are prefixes of the containers of every longer list that begins with it.
 pub fn containers_only_grow()
     ensures { LongerListsOnlyExtend }
 {}
 
-/// However many chunks there are, each of them lies at its spot in the containers, which follows from the lengths of the
+/// Each chunk lies in the containers at its spot, however many chunks there are. The spots follow from the lengths of the
 /// chunks alone.
 pub fn chunks_lie_at_their_spots()
     ensures { ChunksLieAtTheirSpots }
 {}
 
-/// The containers are those of a rule with no walk in it: a container for each of some groups of the chunks, none of them
-/// too long, and none that could have taken the first chunk of the next.
+/// The containers of chunks are a container for each of some groups of the chunks, in order. None of them is too long, and
+/// none has room for the first chunk of the next group.
 pub fn packing_is_by_groups()
     ensures { PackingIsByGroups }
 {}

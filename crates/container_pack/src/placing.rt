@@ -8,11 +8,11 @@ use crate::fill::Fill;
 use sd_base::{MAX_CHUNK_LEN, MAX_CHUNKS, OutOfMemory};
 use std::alloc::Global;
 
-/// Where each chunk lies, by the lengths of the chunks alone. Defined by this project.
+/// The spot of each chunk, by the lengths of the chunks in bytes. Fails only if memory runs out.
 pub fn places(alloc: Global, lengths: &[u32]) -> Result<Vec<Spot>, OutOfMemory>
-    requires some { All (λ n. 1 ≤ n) lengths.now }
+    requires none_empty { All (λ n. 1 ≤ n) lengths.now }
     requires bounded { All (λ n. n ≤ MAX_CHUNK_LEN) lengths.now }
-    requires few { length lengths.now ≤ MAX_CHUNKS }
+    requires within_limit { length lengths.now ≤ MAX_CHUNKS }
 
     ensures spots { IfOk result (λ spots. spots.items ≡ spots_of lengths.now) }
     ensures in_packing { (chunks : List (List ℕ)) → map length chunks ≡ lengths.now

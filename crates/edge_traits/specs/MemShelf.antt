@@ -7,7 +7,7 @@ use Rattle.edge_traits.specs.declared.shelf.File.{File}
 use Rattle.edge_traits.specs.declared.shelf_plan.ShelfFail.{ShelfFail}
 use Rattle.edge_traits.specs.Entries.{bytes_in, loose_in}
 use Rattle.edge_traits.specs.Faults.{counted_once_more, CountsFailed}
-use Rattle.edge_traits.specs.ShelfPlan.{fail_at}
+use Rattle.edge_traits.specs.ShelfPlan.{fail_at, ArePast}
 
 -- the bytes of each file; one that is not there counts as empty
 abbrev pub files_of_shelf : MemShelf → File → List ℕ
@@ -33,6 +33,10 @@ shelf_faults shelf = shelf.plan.tally.faults
 abbrev pub kept_next : MemShelf → Option ℕ
 kept_next shelf = fail_at (failing_calls shelf) (shelf_calls shelf)
 
+-- It will not fail any more: each call that is to fail has been made.
+abbrev pub IsFaultlessShelf : MemShelf → Type 0
+IsFaultlessShelf shelf = ArePast (failing_calls shelf) (shelf_calls shelf)
+
 -- The call has its number, and it failed only where it was to fail; where it was to fail it was refused.
 pub record IsCounted {T : Type 0} (result : Result T EdgeFault) (before after : MemShelf) : Type 0 where
   pub fails : IsErrOf result Failed → IsSome (kept_next before)
@@ -40,6 +44,9 @@ pub record IsCounted {T : Type 0} (result : Result T EdgeFault) (before after : 
   pub faults : CountsFailed result (shelf_faults before) (shelf_faults after)
   pub calls : shelf_calls after ≡ counted_once_more (shelf_calls before)
   pub failing : failing_calls after ≡ failing_calls before
+  pub faultless_serves : IsFaultlessShelf before → IsErrOf result Failed → ⊥
+  pub faultless_counts_none : IsFaultlessShelf before → shelf_faults after ≡ shelf_faults before
+  pub stays_faultless : IsFaultlessShelf before → IsFaultlessShelf after
 
 -- no file has changed
 pub record IsUntouched (before after : MemShelf) : Type 0 where

@@ -1,5 +1,5 @@
 -- What a sink in memory stands for. Defined by this project.
-use Rattle.std.specs.Prelude.{ℕ, List}
+use Rattle.std.specs.Prelude.{ℕ, ◌<◌, List, All}
 use Rattle.edge_traits.specs.declared.mem_sink.MemSink.{MemSink}
 
 -- the bytes that were written
@@ -17,3 +17,7 @@ write_calls sink = sink.plan.tally.calls
 -- how many of them have failed
 abbrev pub write_faults : MemSink → ℕ
 write_faults sink = sink.plan.tally.faults
+
+-- It will not fail any more: each write that is to fail has been made.
+abbrev pub IsFaultlessSink : MemSink → Type 0
+IsFaultlessSink sink = All (λ number. number < write_calls sink) (failing_writes sink)

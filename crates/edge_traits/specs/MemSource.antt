@@ -1,5 +1,5 @@
 -- What a source in memory stands for. Defined by this project.
-use Rattle.std.specs.Prelude.{ℕ, List, drop}
+use Rattle.std.specs.Prelude.{ℕ, ◌<◌, List, drop, All}
 use Rattle.edge_traits.specs.declared.mem_source.MemSource.{MemSource}
 
 -- the bytes still to come
@@ -21,3 +21,7 @@ read_calls source = source.plan.tally.calls
 -- how many of them have failed
 abbrev pub read_faults : MemSource → ℕ
 read_faults source = source.plan.tally.faults
+
+-- It will not fail any more: each read that is to fail has been made.
+abbrev pub IsFaultlessSource : MemSource → Type 0
+IsFaultlessSource source = All (λ number. number < read_calls source) (failing_reads source)

@@ -19,7 +19,7 @@ pub struct MemShelf {
 }
 
 impl MemShelf {
-    ghost use Rattle.edge_traits.specs.MemShelf.{files_of_shelf, loose_of_shelf, failing_calls, shelf_calls, shelf_faults};
+    ghost use Rattle.edge_traits.specs.MemShelf.{files_of_shelf, loose_of_shelf, failing_calls, shelf_calls, shelf_faults, IsFaultlessShelf};
 
     /// A shelf with no files. The calls whose numbers stand in `failing` fail, each by the first entry of its number.
     pub fn new(alloc: Global, failing: Vec<ShelfFail>) -> Self
@@ -28,6 +28,7 @@ impl MemShelf {
         ensures failing { failing_calls result ≡ failing.items }
         ensures calls { shelf_calls result ≡ 0 }
         ensures faults { shelf_faults result ≡ 0 }
+        ensures faultless { failing.items ≡ [] → IsFaultlessShelf result }
     {
         MemShelf {
             alloc,
@@ -63,19 +64,22 @@ impl MemShelf {
         ensures failing { failing_calls self.new ≡ failing_calls self.old }
         ensures calls { shelf_calls self.new ≡ shelf_calls self.old }
         ensures faults { shelf_faults self.new ≡ shelf_faults self.old }
+        ensures stays_faultless { IsFaultlessShelf self.old → IsFaultlessShelf self.new }
     {
         entries::put(self.alloc, &mut self.entries, file, bytes)
     }
 }
 
 impl Shelf for MemShelf {
-    ghost use Rattle.edge_traits.specs.MemShelf.{files_of_shelf, loose_of_shelf, shelf_faults, kept_next, IsCounted, IsUntouched};
+    ghost use Rattle.edge_traits.specs.MemShelf.{files_of_shelf, loose_of_shelf, shelf_faults, kept_next, IsCounted, IsUntouched, IsFaultlessShelf};
 
     ghost files = { λ shelf. Some (files_of_shelf shelf) };
 
     ghost loose = { loose_of_shelf };
 
     ghost faults = { shelf_faults };
+
+    ghost faultless = { IsFaultlessShelf };
 
     fn len(&mut self, file: File) -> Result<u64, EdgeFault>
         ensures length { IfOk result (λ n. n ≡ length (files_of_shelf self.old file)) }

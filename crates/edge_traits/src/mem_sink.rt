@@ -14,7 +14,7 @@ pub struct MemSink {
 }
 
 impl MemSink {
-    ghost use Rattle.edge_traits.specs.MemSink.{written_of, failing_writes, write_calls, write_faults};
+    ghost use Rattle.edge_traits.specs.MemSink.{written_of, failing_writes, write_calls, write_faults, IsFaultlessSink};
 
     /// A sink with nothing written to it. The write calls whose numbers, counted from 0, stand in `failing` answer
     /// `Failed`. Each other one takes its piece whole, or answers `OutOfMemory`.
@@ -23,6 +23,7 @@ impl MemSink {
         ensures failing { failing_writes result ≡ failing.items }
         ensures calls { write_calls result ≡ 0 }
         ensures faults { write_faults result ≡ 0 }
+        ensures faultless { failing.items ≡ [] → IsFaultlessSink result }
     {
         MemSink {
             bytes: Vec::new(alloc),
@@ -39,11 +40,13 @@ impl MemSink {
 }
 
 impl Sink for MemSink {
-    ghost use Rattle.edge_traits.specs.MemSink.{written_of, failing_writes, write_calls, write_faults};
+    ghost use Rattle.edge_traits.specs.MemSink.{written_of, failing_writes, write_calls, write_faults, IsFaultlessSink};
 
     ghost written = { λ sink. Some (written_of sink) };
 
     ghost faults = { write_faults };
+
+    ghost faultless = { IsFaultlessSink };
 
     fn write(&mut self, bytes: &[u8]) -> Result<usize, EdgeFault>
         ensures whole { IfOk result (λ k. k ≡ length bytes.now) }
@@ -55,6 +58,7 @@ impl Sink for MemSink {
         ensures faults { CountsFailed result (write_faults self.old) (write_faults self.new) }
         ensures calls { write_calls self.new ≡ counted_once_more (write_calls self.old) }
         ensures failing { failing_writes self.new ≡ failing_writes self.old }
+        ensures stays_faultless { IsFaultlessSink self.old → IsFaultlessSink self.new }
     {
         if self.plan.next_fails() {
             return Err(EdgeFault::Failed);

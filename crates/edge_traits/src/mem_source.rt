@@ -21,7 +21,7 @@ pub struct MemSource {
 }
 
 impl MemSource {
-    ghost use Rattle.edge_traits.specs.MemSource.{left_of, sizes_of, failing_reads, read_calls, read_faults};
+    ghost use Rattle.edge_traits.specs.MemSource.{left_of, sizes_of, failing_reads, read_calls, read_faults, IsFaultlessSource};
 
     /// A source of these bytes. The k-th successful read gives at most the k-th size, in bytes; once the sizes are used
     /// up, a read gives as much as fits. The read calls whose numbers, counted from 0, stand in `failing` answer
@@ -35,6 +35,7 @@ impl MemSource {
         ensures failing { failing_reads result ≡ failing.items }
         ensures calls { read_calls result ≡ 0 }
         ensures faults { read_faults result ≡ 0 }
+        ensures faultless { failing.items ≡ [] → IsFaultlessSource result }
     {
         MemSource {
             bytes,
@@ -47,11 +48,13 @@ impl MemSource {
 }
 
 impl Source for MemSource {
-    ghost use Rattle.edge_traits.specs.MemSource.{left_of, sizes_of, failing_reads, read_calls, read_faults};
+    ghost use Rattle.edge_traits.specs.MemSource.{left_of, sizes_of, failing_reads, read_calls, read_faults, IsFaultlessSource};
 
     ghost left = { λ source. Some (left_of source) };
 
     ghost faults = { read_faults };
+
+    ghost faultless = { IsFaultlessSource };
 
     fn read(&mut self, into: &mut [u8]) -> Result<usize, EdgeFault>
         ensures bound { IfOk result (λ k. k ≤ length into.new) }
@@ -71,6 +74,7 @@ impl Source for MemSource {
         ensures faults { CountsFailed result (read_faults self.old) (read_faults self.new) }
         ensures calls { read_calls self.new ≡ counted_once_more (read_calls self.old) }
         ensures failing { failing_reads self.new ≡ failing_reads self.old }
+        ensures stays_faultless { IsFaultlessSource self.old → IsFaultlessSource self.new }
     {
         if self.plan.next_fails() {
             return Err(EdgeFault::Failed);

@@ -39,6 +39,8 @@ impl Shelf for NoShelf {
 
     ghost faults = { no_shelf_faults };
 
+    ghost faultless = { λ _. ⊥ };
+
     fn len(&mut self, _file: File) -> Result<u64, EdgeFault>
         ensures fails { result ≡ Err EdgeFault.Failed }
         ensures counts { CountsFault (no_shelf_faults self.old) (no_shelf_faults self.new) }

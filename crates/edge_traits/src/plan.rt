@@ -1,5 +1,5 @@
 //! Which calls of an object in memory fail.
-ghost use Rattle.std.specs.Prelude.{◌≡◌, ◌<◌, ◌^◌, ◌↔◌, ◌+◌, Contains, IsTrue, if◌then◌else◌};
+ghost use Rattle.std.specs.Prelude.{◌≡◌, ◌<◌, ◌^◌, ◌↔◌, ◌+◌, All, Contains, IsTrue, if◌then◌else◌};
 ghost use Rattle.edge_traits.specs.Faults.{counted_once_more};
 
 use crate::tally::Tally;
@@ -30,6 +30,8 @@ impl FaultPlan {
         ensures faults { self.new.tally.faults ≡ (if result then self.old.tally.faults + 1 else self.old.tally.faults) }
         ensures calls { self.new.tally.calls ≡ counted_once_more self.old.tally.calls }
         ensures failing { self.new.failing.items ≡ self.old.failing.items }
+        ensures stays_past { All (λ number. number < self.old.tally.calls) self.old.failing.items →
+            All (λ number. number < self.new.tally.calls) self.new.failing.items }
     {
         let fails = is_among(&self.failing, self.tally.next());
         self.tally.count(fails);

@@ -73,6 +73,10 @@ pub fn read_all<R: Source>(alloc: Global, source: &mut R, limit: u32) -> Result<
     ensures refused { OnErr result (LosesAtMost (limit + 1) (R.left source.old) (R.left source.new)) }
 
     ensures never_falls { R.faults source.old ≤ R.faults source.new }
+
+    ensures faultless_serves { R.faultless source.old → IsErrOf result ReadFault.SourceFault → ⊥ }
+    ensures faultless_counts_none { R.faultless source.old → R.faults source.new ≡ R.faults source.old }
+    ensures stays_faultless { R.faultless source.old → R.faultless source.new }
 {
     let most = limit as usize + 1;
     let mut buffer = Vec::new(alloc);
@@ -128,6 +132,10 @@ fn read_behind<R: Source>(
     ensures failed { IsErrOf result EdgeFault.Failed → Rose (R.faults source.old) (R.faults source.new) }
     ensures never_falls { R.faults source.old ≤ R.faults source.new }
     ensures unchanged { OnErr result (R.left source.new ≡ R.left source.old) }
+
+    ensures faultless_serves { R.faultless source.old → IsErrOf result EdgeFault.Failed → ⊥ }
+    ensures faultless_counts_none { R.faultless source.old → R.faults source.new ≡ R.faults source.old }
+    ensures stays_faultless { R.faultless source.old → R.faultless source.new }
 {
     source.read(&mut buffer[taken..])
 }

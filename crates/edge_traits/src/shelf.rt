@@ -32,6 +32,9 @@ pub trait Shelf: Send {
     /// How often the shelf has failed. The count never falls.
     ghost faults: { Self → ℕ };
 
+    /// The device will not fail any more.
+    ghost faultless: { Self → Type 0 };
+
     /// The number of bytes of a file, 0 where it is not there. Changes nothing.
     fn len(&mut self, file: File) -> Result<u64, EdgeFault>
         ensures length { IfOk result (HasLength (content (files self.old) file)) }
@@ -40,7 +43,11 @@ pub trait Shelf: Send {
         ensures same_loose { SameLoose (loose self.old) (loose self.new) }
 
         ensures failed { IsErrOf result EdgeFault.Failed → Rose (faults self.old) (faults self.new) }
-        ensures never_falls { faults self.old ≤ faults self.new };
+        ensures never_falls { faults self.old ≤ faults self.new }
+
+        ensures faultless_serves { faultless self.old → IsErrOf result EdgeFault.Failed → ⊥ }
+        ensures faultless_counts_none { faultless self.old → faults self.new ≡ faults self.old }
+        ensures stays_faultless { faultless self.old → faultless self.new };
 
     /// Puts as many bytes of a file from byte `at` on into the front of `into` as the file has and `into` holds, and
     /// answers how many: 0 where `at` is at or past the end. Changes nothing.
@@ -53,7 +60,11 @@ pub trait Shelf: Send {
         ensures same_loose { SameLoose (loose self.old) (loose self.new) }
 
         ensures failed { IsErrOf result EdgeFault.Failed → Rose (faults self.old) (faults self.new) }
-        ensures never_falls { faults self.old ≤ faults self.new };
+        ensures never_falls { faults self.old ≤ faults self.new }
+
+        ensures faultless_serves { faultless self.old → IsErrOf result EdgeFault.Failed → ⊥ }
+        ensures faultless_counts_none { faultless self.old → faults self.new ≡ faults self.old }
+        ensures stays_faultless { faultless self.old → faultless self.new };
 
     /// Puts the whole piece behind the bytes of a file. After `Failed` a prefix of the piece stands there; after
     /// `OutOfMemory` nothing has changed in any file.
@@ -67,7 +78,11 @@ pub trait Shelf: Send {
         ensures may_loosen { MayLoosen file (loose self.old) (loose self.new) }
 
         ensures failed { IsErrOf result EdgeFault.Failed → Rose (faults self.old) (faults self.new) }
-        ensures never_falls { faults self.old ≤ faults self.new };
+        ensures never_falls { faults self.old ≤ faults self.new }
+
+        ensures faultless_serves { faultless self.old → IsErrOf result EdgeFault.Failed → ⊥ }
+        ensures faultless_counts_none { faultless self.old → faults self.new ≡ faults self.old }
+        ensures stays_faultless { faultless self.old → faultless self.new };
 
     /// Leaves the first `length` bytes of a file, or the whole file where it is shorter. After `Failed` the file is cut
     /// or as it was; after `OutOfMemory` nothing has changed in any file.
@@ -80,7 +95,11 @@ pub trait Shelf: Send {
         ensures may_loosen { MayLoosen file (loose self.old) (loose self.new) }
 
         ensures failed { IsErrOf result EdgeFault.Failed → Rose (faults self.old) (faults self.new) }
-        ensures never_falls { faults self.old ≤ faults self.new };
+        ensures never_falls { faults self.old ≤ faults self.new }
+
+        ensures faultless_serves { faultless self.old → IsErrOf result EdgeFault.Failed → ⊥ }
+        ensures faultless_counts_none { faultless self.old → faults self.new ≡ faults self.old }
+        ensures stays_faultless { faultless self.old → faultless self.new };
 
     /// Makes what was done to a file last, and changes no file. After a refusal nothing has changed.
     fn flush(&mut self, file: File) -> Result<(), EdgeFault>
@@ -89,5 +108,9 @@ pub trait Shelf: Send {
         ensures unchanged { OnErr result (SameLoose (loose self.old) (loose self.new)) }
 
         ensures failed { IsErrOf result EdgeFault.Failed → Rose (faults self.old) (faults self.new) }
-        ensures never_falls { faults self.old ≤ faults self.new };
+        ensures never_falls { faults self.old ≤ faults self.new }
+
+        ensures faultless_serves { faultless self.old → IsErrOf result EdgeFault.Failed → ⊥ }
+        ensures faultless_counts_none { faultless self.old → faults self.new ≡ faults self.old }
+        ensures stays_faultless { faultless self.old → faultless self.new };
 }

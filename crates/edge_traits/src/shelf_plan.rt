@@ -1,7 +1,7 @@
 //! Which calls of a shelf in memory fail, and what they leave.
 ghost use Rattle.std.specs.Prelude.{◌≡◌, ◌<◌, ◌^◌, OnOk, OnErr, IsSome, IsNone, IsOk, IsErr, IsErrOf, ◌↔◌};
 ghost use Rattle.edge_traits.specs.Faults.{counted_once_more, CountsFailed};
-ghost use Rattle.edge_traits.specs.ShelfPlan.{fail_at};
+ghost use Rattle.edge_traits.specs.ShelfPlan.{fail_at, ArePast};
 
 use crate::EdgeFault;
 use crate::tally::Tally;
@@ -39,6 +39,7 @@ impl ShelfPlan {
     pub(crate) fn kept(&self) -> Option<u32>
         ensures kept { result ≡ fail_at self.now.failing.items self.now.tally.calls }
         ensures small { IsSome result → self.now.tally.calls < 2 ^ 32 }
+        ensures past { ArePast self.now.failing.items self.now.tally.calls → IsNone result }
     {
         let number = self.tally.next();
         for fail in &self.failing {
@@ -57,6 +58,9 @@ impl ShelfPlan {
         ensures faults { CountsFailed result self.old.tally.faults self.new.tally.faults }
         ensures calls { self.new.tally.calls ≡ counted_once_more self.old.tally.calls }
         ensures failing { self.new.failing.items ≡ self.old.failing.items }
+        ensures past { ArePast self.old.failing.items self.old.tally.calls → IsOk result }
+        ensures stays_past { ArePast self.old.failing.items self.old.tally.calls →
+            ArePast self.new.failing.items self.new.tally.calls }
     {
         let kept = self.kept();
         self.answer(kept, Ok(()))
@@ -78,6 +82,8 @@ impl ShelfPlan {
         ensures faults { CountsFailed result self.old.tally.faults self.new.tally.faults }
         ensures calls { self.new.tally.calls ≡ counted_once_more self.old.tally.calls }
         ensures failing { self.new.failing.items ≡ self.old.failing.items }
+        ensures stays_past { ArePast self.old.failing.items self.old.tally.calls →
+            ArePast self.new.failing.items self.new.tally.calls }
     {
         self.tally.count(done.is_ok() && kept.is_some());
         done?;

@@ -13,6 +13,9 @@ pub trait Sink: Send {
     /// How often the sink has failed. The count never falls.
     ghost faults: { Self → ℕ };
 
+    /// The device will not fail any more.
+    ghost faultless: { Self → Type 0 };
+
     /// Takes some bytes from the front of the piece and answers how many: at least one of a piece that is not empty.
     /// `Failed` comes only where the device failed; a refused call has written nothing.
     fn write(&mut self, bytes: &[u8]) -> Result<usize, EdgeFault>
@@ -22,5 +25,9 @@ pub trait Sink: Send {
 
         ensures failed { IsErrOf result EdgeFault.Failed → Rose (faults self.old) (faults self.new) }
         ensures never_falls { faults self.old ≤ faults self.new }
-        ensures unchanged { OnErr result (written self.new ≡ written self.old) };
+        ensures unchanged { OnErr result (written self.new ≡ written self.old) }
+
+        ensures faultless_serves { faultless self.old → IsErrOf result EdgeFault.Failed → ⊥ }
+        ensures faultless_counts_none { faultless self.old → faults self.new ≡ faults self.old }
+        ensures stays_faultless { faultless self.old → faultless self.new };
 }

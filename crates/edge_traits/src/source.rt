@@ -13,6 +13,9 @@ pub trait Source: Send {
     /// How often the source has failed. The count never falls.
     ghost faults: { Self → ℕ };
 
+    /// The device will not fail any more.
+    ghost faultless: { Self → Type 0 };
+
     /// Puts the next bytes into the front of `into` and answers how many. 0 for an `into` that is not empty means that
     /// nothing is left. `Failed` comes only where the device failed; any refusal leaves what is still to come.
     fn read(&mut self, into: &mut [u8]) -> Result<usize, EdgeFault>
@@ -22,5 +25,9 @@ pub trait Source: Send {
 
         ensures failed { IsErrOf result EdgeFault.Failed → Rose (faults self.old) (faults self.new) }
         ensures never_falls { faults self.old ≤ faults self.new }
-        ensures unchanged { OnErr result (left self.new ≡ left self.old) };
+        ensures unchanged { OnErr result (left self.new ≡ left self.old) }
+
+        ensures faultless_serves { faultless self.old → IsErrOf result EdgeFault.Failed → ⊥ }
+        ensures faultless_counts_none { faultless self.old → faults self.new ≡ faults self.old }
+        ensures stays_faultless { faultless self.old → faultless self.new };
 }

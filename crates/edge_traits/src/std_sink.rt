@@ -34,6 +34,8 @@ impl<T: Print + Send + Drop> Sink for StdSink<T> {
 
     ghost faults = { std_sink_faults };
 
+    ghost faultless = { λ _. ⊥ };
+
     fn write(&mut self, bytes: &[u8]) -> Result<usize, EdgeFault>
         ensures bound { IfOk result (λ k. k ≤ length bytes.now) }
         ensures progress { IfOk result (λ k. 0 < length bytes.now → 1 ≤ k) }

@@ -32,6 +32,8 @@ impl<T: Input + Send + Drop> Source for StdSource<T> {
 
     ghost faults = { std_source_faults };
 
+    ghost faultless = { λ _. ⊥ };
+
     fn read(&mut self, into: &mut [u8]) -> Result<usize, EdgeFault>
         ensures bound { IfOk result (λ k. k ≤ length into.new) }
         ensures only_fails { OnErr result (IsErrOf result EdgeFault.Failed) }

@@ -36,6 +36,7 @@ impl Tally {
         requires { IsTrue fails → self.old.calls < 2 ^ 32 }
         ensures faults { self.new.faults ≡ (if fails then self.old.faults + 1 else self.old.faults) }
         ensures calls { self.new.calls ≡ counted_once_more self.old.calls }
+        ensures not_fewer { self.old.calls ≤ self.new.calls }
     {
         self.calls = self.calls.saturating_add(1);
         if fails {

@@ -76,6 +76,8 @@ impl Sink for Slow {
 
     ghost faults = { λ _. 0 };
 
+    ghost faultless = { λ _. ⊥ };
+
     fn write(&mut self, bytes: &[u8]) -> Result<usize, EdgeFault> {
         match bytes.first() {
             None => Ok(0),

@@ -14,6 +14,10 @@ pub fn write_all<K: Sink>(sink: &mut K, bytes: &[u8]) -> Result<(), EdgeFault>
 
     ensures failed { IsErrOf result EdgeFault.Failed → Rose (K.faults sink.old) (K.faults sink.new) }
     ensures never_falls { K.faults sink.old ≤ K.faults sink.new }
+
+    ensures faultless_serves { K.faultless sink.old → IsErrOf result EdgeFault.Failed → ⊥ }
+    ensures faultless_counts_none { K.faultless sink.old → K.faults sink.new ≡ K.faults sink.old }
+    ensures stays_faultless { K.faultless sink.old → K.faultless sink.new }
 {
     let mut done = 0;
     while done < bytes.len() {

@@ -1,4 +1,5 @@
--- The degree of a polynomial is the place of its highest set bit, and what is reduced has only bits below that place.
+-- The degree of a polynomial is the place of its highest set bit, and a reduced number has only bits
+-- below that place.
 use Rattle.std.proofs.Common.{◌≡◌, ℕ, suc, ◌+◌, ◌-◌, ◌*◌, ◌/◌, ◌%◌, ◌^◌, ◌<◌, ◌≤◌, arith, subst, sym, ap, ap₂, ◌∙◌, inl, inr, eq-eqb}
 use Rattle.std.proofs.Math.Nat.{pow-suc, mul-le-mul_right, mul_comm, pow-le-pow_right}
 use Rattle.std.proofs.lemmas.Bool.{cases_eq, cases_lt, ne_eqb}
@@ -6,14 +7,14 @@ use Rattle.std.specs.Prelude.{bit_xor}
 use Rattle.std.proofs.lemmas.Nat.{leading_top, xor_lt, xor_block, shr_split, mod_below, pow_pos, div_below}
 use Rattle.sd_base.specs.Polynomial.{degree, reduced}
 
--- the degree's power and the next have the polynomial between them
+-- a polynomial lies between the power of its degree and the next power
 pub degree_place : (p : ℕ) → 0 < p → p < 2 ^ 64 → (2 ^ degree p ≤ p) × (p < 2 ^ suc (degree p)) × (degree p < 64)
 degree_place p pos fits =
     let t = leading_top 64 p pos fits in
     let e : t.0 ≡ degree p = omega (arith, t.1) in
     (subst (λ j. 2 ^ j ≤ p) e t.2, subst (λ j. p < 2 ^ suc j) e t.3, omega arith)
 
--- what has its highest bit at a place loses it to another such number
+-- two numbers with the same highest bit: it is clear in their exclusive or
 pub xor_of_tops : (d r p : ℕ) → 2 ^ d ≤ r → r < 2 ^ suc d → 2 ^ d ≤ p → p < 2 ^ suc d → bit_xor r p < 2 ^ d
 xor_of_tops d r p low_r high_r low_p high_p =
     let above : 2 ^ suc d ≡ 2 ^ d * 2 = pow-suc 2 d in
@@ -33,7 +34,7 @@ power_from_bit d r set =
     let m : 1 * 2 ^ d ≤ r / 2 ^ d * 2 ^ d = mul-le-mul_right (2 ^ d) q in
     omega (arith, shr_split r d)
 
--- and a clear one that it does not
+-- a clear one says that it does not
 pub below_from_bit : (d r : ℕ) → r < 2 ^ suc d → (r / 2 ^ d % 2 ≡ 1 → ⊥) → r < 2 ^ d
 below_from_bit d r within clear =
     let split : r / 2 ^ d * 2 ^ d + r % 2 ^ d ≡ r = shr_split r d in
@@ -55,7 +56,7 @@ reduced_below p r pos fits within =
       | inr clear ↦ rw (ne_eqb _ _ clear) (below_from_bit (degree p) r within clear)
     ]
 
--- the two ways of a bit more, as the code tests them
+-- a number with the degree's bit set, as the code tests it
 pub taken_below : (p r h : ℕ) → 0 < p → p < 2 ^ 64 → h ≡ degree p → r < 2 ^ suc (degree p) → r / 2 ^ h % 2 ≡ 1 → bit_xor r p < 2 ^ degree p
 taken_below p r h pos fits is within set =
     let at = degree_place p pos fits in

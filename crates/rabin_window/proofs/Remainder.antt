@@ -1,5 +1,6 @@
--- Two laws of remainders, over any polynomial and bit strings of any length: the remainder of an exclusive or is the
--- exclusive or of the remainders, and a number below the power of the degree is its own remainder.
+-- Two laws of remainders, over any polynomial and bit strings of any length: the remainder of an
+-- exclusive or is the exclusive or of the remainders, and a number below the power of the degree is
+-- its own remainder.
 use Rattle.std.proofs.Common.{◌≡◌, ℕ, ◌+◌, ◌*◌, ◌^◌, ◌<◌, ◌≤◌, List, [], ◌∷◌, length, arith, refl, sym, ap, ap₂, ◌∙◌, inl, inr, eq-eqb}
 use Rattle.std.specs.Prelude.{bit_xor}
 use Rattle.std.specs.Int.{bit_at}
@@ -21,7 +22,7 @@ xor_four a b c d =
 pub xor_twice : (a b : ℕ) → bit_xor (bit_xor a b) b ≡ a
 xor_twice a b = xor_assoc a b b ∙ ap (bit_xor a) (xor_self b) ∙ xor_zero_r a
 
--- ---- a number with the degree's bit taken away, where it is set and where it is clear
+-- ---- a number with the degree's bit taken away, if it is set and if it is clear
 
 reduced_set : (p r : ℕ) → bit_at r (degree p) ≡ 1 → reduced p r ≡ bit_xor r p
 reduced_set p r set = rw (eq-eqb _ _ set) refl
@@ -72,7 +73,7 @@ append_bit_xor p r s a b few_a few_b = ap (reduced p) (longer_xor r s a b few_a 
 pub append_bit_below : (p r b : ℕ) → 0 < p → p < 2 ^ 64 → r < 2 ^ degree p → b < 2 → append_bit p r b < 2 ^ degree p
 append_bit_below p r b pos fits below few = reduced_below p (2 * r + b) pos fits (longer_below (degree p) r b below few)
 
--- a bit more, where the degree is not reached
+-- a bit more, if the degree is not reached
 append_bit_small : (p r b : ℕ) → 2 * r + b < 2 ^ degree p → append_bit p r b ≡ 2 * r + b
 append_bit_small p r b small =
     let clear = bit_at_above (2 * r + b) (degree p) (degree p) small (omega arith) in
@@ -107,7 +108,7 @@ remainder_below p r [] pos fits bits below = below
 remainder_below p r (x ∷ xs) pos fits bits below =
     remainder_below p (append_bit p r x) xs pos fits bits.1 (append_bit_below p r x pos fits below bits.0)
 
--- the number that a bit string spells behind a number
+-- the number that a bit string spells when it is appended to a number
 abbrev pub spelled : ℕ → List ℕ → ℕ
 spelled r [] = r
 spelled r (x ∷ xs) = spelled (2 * r + x) xs
@@ -116,7 +117,7 @@ spelled_grows : (r : ℕ) (xs : List ℕ) → r ≤ spelled r xs
 spelled_grows r [] = omega arith
 spelled_grows r (x ∷ xs) = omega (arith, spelled_grows (2 * r + x) xs)
 
--- what is below the power of the degree is its own remainder
+-- a number below the power of the degree is its own remainder
 pub own_remainder : (p r : ℕ) (xs : List ℕ) → spelled r xs < 2 ^ degree p → fold (append_bit p) r xs ≡ spelled r xs
 own_remainder p r [] small = refl
 own_remainder p r (x ∷ xs) small =

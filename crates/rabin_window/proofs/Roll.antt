@@ -1,5 +1,5 @@
--- How a remainder changes when a window moves by a byte: what the oldest byte adds is taken away, and the new byte is
--- appended.
+-- How a remainder changes when a window moves by a byte: what the oldest byte adds is taken away,
+-- and the new byte is appended.
 use Rattle.std.proofs.Common.{◌≡◌, ℕ, ◌+◌, ◌-◌, ◌*◌, ◌/◌, ◌%◌, ◌^◌, ◌<◌, List, [], ◌∷◌, ◌++◌, length, get_or, drop, replicate, arith, refl, sym, ap, ap₂, ◌∙◌, subst}
 use Rattle.std.specs.Prelude.{bit_and, bit_or, bit_xor}
 use Rattle.std.specs.Int.Bits.{xor_comm, xor_zero_r, xor_shifted}
@@ -8,6 +8,7 @@ use Rattle.std.proofs.lemmas.List.Sums.{fold-append}
 use Rattle.std.proofs.lemmas.Nat.{pow_pos, pow-add, shr_split, mod_below, shl_below, shl_whole, shr_below, and_mask, or_shifted, xor_lt}
 use Rattle.sd_base.specs.Parameters.{IsPolynomial}
 use Rattle.sd_base.specs.Polynomial.{degree, append_bit, fingerprint}
+use Rattle.sd_base.specs.declared.limits.TheConstants.{WINDOW}
 use Rattle.rabin_window.specs.Division.{byte_bits, append_byte}
 use Rattle.rabin_window.specs.Tables.{leaving_entry, appending_entry, AreTables}
 use Rattle.rabin_window.proofs.Bits.{AllBits-byte_bits, length-byte_bits, xor_zero_byte, spelled-byte_bits}
@@ -40,7 +41,8 @@ pub bytes_below : (p r : ℕ) (xs : List ℕ) → 0 < p → p < 2 ^ 64 → r < 2
 bytes_below p r [] pos fits below = below
 bytes_below p r (x ∷ xs) pos fits below = bytes_below p (append_byte p r x) xs pos fits (append_byte_below p r x pos fits below)
 
--- what stands before bytes adds to their remainder what it would be behind as many zero bytes
+-- what comes before bytes adds to their remainder: its own remainder with as many zero bytes after
+-- it
 pub bytes_xor : (p r s : ℕ) (xs : List ℕ)
     → fold (append_byte p) (bit_xor r s) xs ≡ bit_xor (fold (append_byte p) r (replicate (length xs) 0)) (fold (append_byte p) s xs)
 bytes_xor p r s [] = refl
@@ -49,26 +51,26 @@ bytes_xor p r s (x ∷ xs) =
 
 -- ---- the oldest byte leaves
 
-without_oldest : (p out : ℕ) (window : List ℕ) → length window ≡ 48 → get_or window 0 0 ≡ out
-    → bit_xor (fold (append_byte p) 0 window) (leaving_entry p out) ≡ fold (append_byte p) 0 (drop 1 window)
+without_oldest : (p leaving : ℕ) (window : List ℕ) → length window ≡ WINDOW → get_or window 0 0 ≡ leaving
+    → bit_xor (fold (append_byte p) 0 window) (leaving_entry p leaving) ≡ fold (append_byte p) 0 (drop 1 window)
 unfolding leaving_entry
-without_oldest p out [] size oldest = absurd (omega arith)
-without_oldest p out (x ∷ rest) size oldest =
+without_oldest p leaving [] size oldest = absurd (omega arith)
+without_oldest p leaving (x ∷ rest) size oldest =
     let first = append_byte p 0 x in
-    let behind = fold (append_byte p) first (replicate 47 0) in
+    let with_zeros = fold (append_byte p) first (replicate (WINDOW - 1) 0) in
     let left = fold (append_byte p) 0 rest in
-    let many : length rest ≡ 47 = omega arith in
-    let parts : fold (append_byte p) first rest ≡ bit_xor behind left =
+    let many : length rest ≡ WINDOW - 1 = omega arith in
+    let parts : fold (append_byte p) first rest ≡ bit_xor with_zeros left =
     ap (λ t. fold (append_byte p) t rest) (sym (xor_zero_r first)) ∙ bytes_xor p first 0 rest
     ∙ ap (λ n. bit_xor (fold (append_byte p) first (replicate n 0)) left) many in
-    let same : behind ≡ fold (append_byte p) (append_byte p 0 out) (replicate 47 0) =
-    ap (λ b. fold (append_byte p) (append_byte p 0 b) (replicate 47 0)) oldest in
-    ap₂ bit_xor (parts ∙ xor_comm behind left) (sym same) ∙ xor_twice left behind
+    let same : with_zeros ≡ fold (append_byte p) (append_byte p 0 leaving) (replicate (WINDOW - 1) 0) =
+    ap (λ b. fold (append_byte p) (append_byte p 0 b) (replicate (WINDOW - 1) 0)) oldest in
+    ap₂ bit_xor (parts ∙ xor_comm with_zeros left) (sym same) ∙ xor_twice left with_zeros
 
-pub kept_is : (p out : ℕ) (window : List ℕ) → length window ≡ 48 → get_or window 0 0 ≡ out
-    → bit_xor (fingerprint p window) (leaving_entry p out) ≡ fingerprint p (drop 1 window)
-kept_is p out window size oldest =
-    ap (λ t. bit_xor t (leaving_entry p out)) (fingerprint_by_bytes p window) ∙ without_oldest p out window size oldest
+pub kept_is : (p leaving : ℕ) (window : List ℕ) → length window ≡ WINDOW → get_or window 0 0 ≡ leaving
+    → bit_xor (fingerprint p window) (leaving_entry p leaving) ≡ fingerprint p (drop 1 window)
+kept_is p leaving window size oldest =
+    ap (λ t. bit_xor t (leaving_entry p leaving)) (fingerprint_by_bytes p window) ∙ without_oldest p leaving window size oldest
     ∙ sym (fingerprint_by_bytes p (drop 1 window))
 
 -- ---- a byte is appended
@@ -98,21 +100,21 @@ fingerprint_push p xs b =
 pub leaving_entry_below : (p b : ℕ) → 0 < p → p < 2 ^ 64 → leaving_entry p b < 2 ^ degree p
 unfolding leaving_entry
 leaving_entry_below p b pos fits =
-    bytes_below p (append_byte p 0 b) (replicate 47 0) pos fits (append_byte_below p 0 b pos fits (pow_pos (degree p)))
+    bytes_below p (append_byte p 0 b) (replicate (WINDOW - 1) 0) pos fits (append_byte_below p 0 b pos fits (pow_pos (degree p)))
 
 -- ---- the entries, as the code makes them
 
 module _ (p k b : ℕ) (is : k + 8 ≡ degree p) (pos : 0 < p) (fits : p < 2 ^ 64) (few : b < 256) where
-  shifted_whole : b * 2 ^ k % 18446744073709551616 ≡ b * 2 ^ k
+  shifted_whole : b * 2 ^ k % 2 ^ 64 ≡ b * 2 ^ k
   shifted_whole = let at = degree_place p pos fits in shl_whole b 8 k 64 few (omega arith)
 
   -- a byte as the highest eight bits of a remainder
-  pub shifted_below : b * 2 ^ k % 18446744073709551616 < 2 ^ degree p
+  pub shifted_below : b * 2 ^ k % 2 ^ 64 < 2 ^ degree p
   shifted_below =
       let whole : 8 + k ≡ degree p = omega arith in
       subst (λ x. x < 2 ^ degree p) (sym shifted_whole) (subst (λ d. b * 2 ^ k < 2 ^ d) whole (shl_below b 8 k few))
 
-  pub shifted_entry : append_byte p (b * 2 ^ k % 18446744073709551616) 0 ≡ appending_entry p b
+  pub shifted_entry : append_byte p (b * 2 ^ k % 2 ^ 64) 0 ≡ appending_entry p b
   unfolding appending_entry
   shifted_entry =
       let place : k ≡ degree p - 8 = omega arith in
@@ -121,63 +123,76 @@ module _ (p k b : ℕ) (is : k + 8 ≡ degree p) (pos : 0 < p) (fits : p < 2 ^ 6
 -- ---- the step, as the code takes it
 
 module _ (p k mask r b : ℕ) (is : k + 8 ≡ degree p) (within : degree p < 64) (mask_is : mask ≡ 2 ^ k - 1) (few : b < 256) where
-  -- the low bits with the byte behind them
-  low_is : bit_or (bit_and r mask * 256 % 18446744073709551616) b ≡ r % 2 ^ k * 256 + b
+  -- the low bits with the byte after them
+  low_is : bit_or (bit_and r mask * 256 % 2 ^ 64) b ≡ r % 2 ^ k * 256 + b
   low_is =
       let below : r % 2 ^ k < 2 ^ k = mod_below r (2 ^ k) (pow_pos k) in
       let masked : bit_and r mask ≡ r % 2 ^ k = ap (bit_and r) mask_is ∙ and_mask r k in
-      ap (λ x. bit_or (x * 256 % 18446744073709551616) b) masked
+      ap (λ x. bit_or (x * 256 % 2 ^ 64) b) masked
       ∙ ap (λ x. bit_or x b) (shl_whole (r % 2 ^ k) k 8 64 below (omega arith)) ∙ or_shifted (r % 2 ^ k) 8 b few
 
-  pub step_is : bit_xor (bit_or (bit_and r mask * 256 % 18446744073709551616) b) (appending_entry p (r / 2 ^ k)) ≡ append_byte p r b
+  pub step_is : bit_xor (bit_or (bit_and r mask * 256 % 2 ^ 64) b) (appending_entry p (r / 2 ^ k)) ≡ append_byte p r b
   step_is = ap (λ x. bit_xor x (appending_entry p (r / 2 ^ k))) low_is ∙ appended_is p k r b is few
 
--- ---- the step by tables, as the code takes it; `out'` and `inn'` are the bytes as it has them
+-- ---- the step by tables, as the code takes it; `leaving'` and `entering'` are the bytes as the code
+-- has them
 
--- what is left without the oldest byte
+-- the remainder without what the oldest byte adds
 abbrev pub kept : List ℕ → ℕ → ℕ → ℕ
-kept leaving value out = bit_xor value (get_or leaving out 0)
+kept leaving_entries value leaving = bit_xor value (get_or leaving_entries leaving 0)
 
--- what comes of that with a byte appended
+-- that, with a byte appended
 abbrev pub appended : List ℕ → ℕ → ℕ → ℕ → ℕ → ℕ
-appended appending k mask r inn = bit_xor (bit_or (bit_and r mask * 256 % 18446744073709551616) inn) (get_or appending (r / 2 ^ k) 0)
+appended appending_entries k mask r entering = bit_xor (bit_or (bit_and r mask * 256 % 2 ^ 64) entering) (get_or appending_entries (r / 2 ^ k) 0)
 
-module _ {p k mask : ℕ} {leaving appending : List ℕ} (tables : AreTables p k mask leaving appending) (valid : IsPolynomial p) where
-  leaves_is : (out out' : ℕ) → out' ≡ out → out < 256 → get_or leaving out' 0 ≡ leaving_entry p out
-  leaves_is out out' out_is few = ap (λ b. get_or leaving b 0) out_is ∙ tables.leaves out few
+module _ {p k mask : ℕ} {leaving_entries appending_entries : List ℕ}
+    (tables : AreTables p k mask leaving_entries appending_entries) (valid : IsPolynomial p) where
+  leaves_is : (leaving leaving' : ℕ) → leaving' ≡ leaving → leaving < 256
+      → get_or leaving_entries leaving' 0 ≡ leaving_entry p leaving
+  leaves_is leaving leaving' leaving_is few = ap (λ b. get_or leaving_entries b 0) leaving_is ∙ tables.leaves leaving few
 
-  kept_below : (value out out' : ℕ) → out' ≡ out → out < 256 → value < 2 ^ degree p → kept leaving value out' < 2 ^ degree p
-  kept_below value out out' out_is few below =
-      xor_lt (degree p) value (get_or leaving out' 0) below
-      (subst (λ x. x < 2 ^ degree p) (sym (leaves_is out out' out_is few)) (leaving_entry_below p out (omega arith) valid.1))
+  kept_below : (value leaving leaving' : ℕ) → leaving' ≡ leaving → leaving < 256 → value < 2 ^ degree p
+      → kept leaving_entries value leaving' < 2 ^ degree p
+  kept_below value leaving leaving' leaving_is few below =
+      xor_lt (degree p) value (get_or leaving_entries leaving' 0) below
+      (subst (λ x. x < 2 ^ degree p) (sym (leaves_is leaving leaving' leaving_is few)) (leaving_entry_below p leaving (omega arith) valid.1))
 
-  -- the highest bits are the number of an entry
-  pub high_below : (value out out' : ℕ) → out' ≡ out → out < 256 → value < 2 ^ degree p → kept leaving value out' / 2 ^ k < 256
-  high_below value out out' out_is few below =
+  -- the highest bits are the index of an entry
+  pub high_below : (value leaving leaving' : ℕ) → leaving' ≡ leaving → leaving < 256 → value < 2 ^ degree p
+      → kept leaving_entries value leaving' / 2 ^ k < 256
+  high_below value leaving leaving' leaving_is few below =
       let turned : degree p ≡ 8 + k = omega (arith, tables.highest_byte) in
-      shr_below (kept leaving value out') 8 k
-      (subst (λ d. kept leaving value out' < 2 ^ d) turned (kept_below value out out' out_is few below))
+      shr_below (kept leaving_entries value leaving') 8 k
+      (subst (λ d. kept leaving_entries value leaving' < 2 ^ d) turned (kept_below value leaving leaving' leaving_is few below))
 
-  appended_by_table : (r inn inn' : ℕ) → r / 2 ^ k < 256 → inn' ≡ inn → inn < 256 → appended appending k mask r inn' ≡ append_byte p r inn
-  appended_by_table r inn inn' high inn_is few =
+  appended_by_table : (r entering entering' : ℕ) → r / 2 ^ k < 256 → entering' ≡ entering → entering < 256
+      → appended appending_entries k mask r entering' ≡ append_byte p r entering
+  appended_by_table r entering entering' high entering_is few =
       let place = degree_place p (omega arith) valid.1 in
-      ap (bit_xor (bit_or (bit_and r mask * 256 % 18446744073709551616) inn')) (tables.appends (r / 2 ^ k) high)
-      ∙ ap (λ b. bit_xor (bit_or (bit_and r mask * 256 % 18446744073709551616) b) (appending_entry p (r / 2 ^ k))) inn_is
-      ∙ step_is p k mask r inn tables.highest_byte place.2 tables.masked few
+      ap (bit_xor (bit_or (bit_and r mask * 256 % 2 ^ 64) entering')) (tables.appends (r / 2 ^ k) high)
+      ∙ ap (λ b. bit_xor (bit_or (bit_and r mask * 256 % 2 ^ 64) b) (appending_entry p (r / 2 ^ k))) entering_is
+      ∙ step_is p k mask r entering tables.highest_byte place.2 tables.masked few
 
-  module _ (value out out' inn inn' : ℕ) (out_is : out' ≡ out) (inn_is : inn' ≡ inn) (few_out : out < 256) (few_inn : inn < 256)
+  module _ (value leaving leaving' entering entering' : ℕ) (leaving_is : leaving' ≡ leaving) (entering_is : entering' ≡ entering)
+      (few_leaving : leaving < 256) (few_entering : entering < 256)
       (below : value < 2 ^ degree p) where
-    moved_is : appended appending k mask (kept leaving value out') inn' ≡ append_byte p (kept leaving value out') inn
-    moved_is = appended_by_table (kept leaving value out') inn inn' (high_below value out out' out_is few_out below) inn_is few_inn
+    moved_is : appended appending_entries k mask (kept leaving_entries value leaving') entering'
+        ≡ append_byte p (kept leaving_entries value leaving') entering
+    moved_is =
+        appended_by_table (kept leaving_entries value leaving') entering entering'
+        (high_below value leaving leaving' leaving_is few_leaving below) entering_is few_entering
 
-    pub rolled : (window : List ℕ) → length window ≡ 48 → get_or window 0 0 ≡ out → value ≡ fingerprint p window
-        → appended appending k mask (kept leaving value out') inn' ≡ fingerprint p (drop 1 window ++ inn ∷ [])
+    pub rolled : (window : List ℕ) → length window ≡ WINDOW → get_or window 0 0 ≡ leaving → value ≡ fingerprint p window
+        → appended appending_entries k mask (kept leaving_entries value leaving') entering'
+        ≡ fingerprint p (drop 1 window ++ entering ∷ [])
     rolled window size oldest value_is =
         moved_is
-        ∙ ap (λ t. append_byte p t inn) (ap₂ bit_xor value_is (leaves_is out out' out_is few_out) ∙ kept_is p out window size oldest)
-        ∙ sym (fingerprint_push p (drop 1 window) inn)
+        ∙ ap (λ t. append_byte p t entering) (ap₂ bit_xor value_is (leaves_is leaving leaving' leaving_is few_leaving)
+        ∙ kept_is p leaving window size oldest)
+        ∙ sym (fingerprint_push p (drop 1 window) entering)
 
-    pub rolled_below : appended appending k mask (kept leaving value out') inn' < 2 ^ degree p
+    pub rolled_below : appended appending_entries k mask (kept leaving_entries value leaving') entering' < 2 ^ degree p
     rolled_below =
         subst (λ x. x < 2 ^ degree p) (sym moved_is)
-        (append_byte_below p (kept leaving value out') inn (omega arith) valid.1 (kept_below value out out' out_is few_out below))
+        (append_byte_below p (kept leaving_entries value leaving') entering (omega arith) valid.1
+        (kept_below value leaving leaving' leaving_is few_leaving below))

@@ -1,25 +1,29 @@
--- What is kept of a polynomial, so that a window moves with two look-ups. Rabin's fingerprint is kept so by LBFS (SOSP
--- 2001); what the entries are is this project's own.
+-- What is kept of a polynomial, so that a window moves with two look-ups. LBFS (SOSP 2001) keeps
+-- Rabin's fingerprint in this way; what the entries are is this project's own.
 use Rattle.std.specs.Prelude.{◌≡◌, ℕ, ◌+◌, ◌-◌, ◌*◌, ◌^◌, ◌<◌, List, replicate, slice_index}
 use Rattle.std.specs.List.{fold}
 use Rattle.sd_base.specs.Polynomial.{degree}
+use Rattle.sd_base.specs.declared.limits.TheConstants.{WINDOW}
 use Rattle.rabin_window.specs.Division.{append_byte}
+use Rattle.rabin_window.specs.declared.tables.TheConstants.{BYTE_VALUES}
 
 -- tables, as contracts see them: by the polynomial that they were made for
-pub record Divides : Type 0 where
+pub record TablesView : Type 0 where
   pub polynomial : ℕ
 
--- what the oldest byte of a window adds to the window's remainder: its own with 47 zero bytes behind it
+-- what the oldest byte of a window adds to the window's remainder: the remainder of a window that
+-- begins with this byte and is zero otherwise
 unfoldable pub leaving_entry : ℕ → ℕ → ℕ
-leaving_entry p b = fold (append_byte p) (append_byte p 0 b) (replicate 47 0)
+leaving_entry p b = fold (append_byte p) (append_byte p 0 b) (replicate (WINDOW - 1) 0)
 
 -- what the highest eight bits of a remainder become when a zero byte is appended
 unfoldable pub appending_entry : ℕ → ℕ → ℕ
 appending_entry p b = append_byte p (b * 2 ^ (degree p - 8)) 0
 
--- the tables of a polynomial, with the number of the remainder's bits that are not its highest eight, and their mask
-pub record AreTables (p shift low_mask : ℕ) (leaving appending : List ℕ) : Type 0 where
+-- the tables of a polynomial, with the number of the remainder's bits that are not its highest
+-- eight, and their mask
+pub record AreTables (p shift low_mask : ℕ) (leaving_entries appending_entries : List ℕ) : Type 0 where
   pub highest_byte : shift + 8 ≡ degree p
   pub masked : low_mask ≡ 2 ^ shift - 1
-  pub leaves : (b : ℕ) → b < 256 → slice_index leaving b ≡ leaving_entry p b
-  pub appends : (b : ℕ) → b < 256 → slice_index appending b ≡ appending_entry p b
+  pub leaves : (b : ℕ) → b < BYTE_VALUES → slice_index leaving_entries b ≡ leaving_entry p b
+  pub appends : (b : ℕ) → b < BYTE_VALUES → slice_index appending_entries b ≡ appending_entry p b

@@ -16,8 +16,9 @@ pub struct Divisor {
 }
 
 impl Divisor {
+    /// The divisor by the polynomial of these parameters.
     pub fn new(params: &Params) -> Divisor
-        ensures { result.polynomial ≡ params.now.polynomial }
+        ensures polynomial { result.polynomial ≡ params.now.polynomial }
     {
         let polynomial = params.polynomial;
         Divisor {
@@ -41,7 +42,8 @@ impl Divisor {
         }
     }
 
-    /// The remainder of bytes, from that of the bytes without the last of them. The high bit of a byte comes first.
+    /// The remainder of bytes, from that of the bytes without the last of them. The high bit of a
+    /// byte comes first.
     pub fn append_byte(self, remainder: u64, byte: u8) -> u64
         requires reduced { remainder < 2 ^ degree self.polynomial }
         ensures divided { result ≡ append_byte self.polynomial remainder byte }
@@ -54,7 +56,7 @@ impl Divisor {
         divided
     }
 
-    /// The remainder of bytes.
+    /// The remainder of bytes: Rabin's fingerprint of them.
     pub fn remainder(self, bytes: &[u8]) -> u64
         ensures divided { result ≡ fingerprint self.polynomial bytes.now }
         ensures reduced { result < 2 ^ degree self.polynomial }

@@ -6,10 +6,10 @@ use crate::divisor::Divisor;
 use sd_base::{Params, WINDOW};
 use std::marker::Model;
 
-/// Bytes of a window, as a length of arrays.
+/// Bytes of a window, as the length of an array.
 pub const WINDOW_SIZE: usize = WINDOW as usize;
 
-// The values of a byte.
+/// How many values a byte has.
 const BYTE_VALUES: usize = 256;
 
 /// What windows need of one polynomial, so that a window moves by a byte with two look-ups.
@@ -20,19 +20,20 @@ pub struct Tables {
     shift: u32,
     low_mask: u64,
     // What the byte that leaves a window adds to its remainder.
-    leaving: [u64; BYTE_VALUES],
+    leaving_entries: [u64; BYTE_VALUES],
     // What the highest eight bits of a remainder become when a byte is appended.
-    appending: [u64; BYTE_VALUES],
+    appending_entries: [u64; BYTE_VALUES],
 }
 
 impl Model for Tables {
-    ghost use Rattle.rabin_window.specs.Tables.{Divides, AreTables};
+    ghost use Rattle.rabin_window.specs.Tables.{TablesView, AreTables};
 
-    ghost Value = { Divides };
+    ghost Value = { TablesView };
 
     ghost view = { λ t. record { polynomial = t.divisor.polynomial } };
 
-    ghost invariant = { λ t. AreTables t.divisor.polynomial t.shift t.low_mask t.leaving t.appending };
+    ghost invariant = { λ t. AreTables t.divisor.polynomial t.shift t.low_mask
+        t.leaving_entries t.appending_entries };
 }
 
 impl Tables {
@@ -46,8 +47,8 @@ impl Tables {
             divisor,
             shift,
             low_mask: (1 << shift) - 1,
-            leaving: leaving_table(divisor),
-            appending: appending_table(divisor, shift),
+            leaving_entries: leaving_table(divisor),
+            appending_entries: appending_table(divisor, shift),
         }
     }
 
@@ -58,7 +59,7 @@ impl Tables {
         self.divisor.polynomial
     }
 
-    /// Rabin's fingerprint of bytes, divided plainly: with it a window begins.
+    /// Rabin's fingerprint of bytes, divided bit by bit: that of a first window.
     pub fn fingerprint(&self, bytes: &[u8]) -> u64
         ensures fingerprint { result ≡ fingerprint self.now.polynomial bytes.now }
         ensures reduced { result < 2 ^ degree self.now.polynomial }
@@ -66,26 +67,27 @@ impl Tables {
         self.divisor.remainder(bytes)
     }
 
-    /// The fingerprint of a window that has moved by a byte, from its fingerprint before: `out` was its oldest byte, and
-    /// `inn` is its newest. A walk over a text needs no more than this, since the text still has the bytes.
+    /// The fingerprint of a window that has moved by a byte, from `value`, its fingerprint before:
+    /// `out` was its oldest byte, and `inn` is its newest. A scan of a text needs no `Window`, since
+    /// the text still has the bytes.
     #[inline(always)]
     pub fn roll(&self, value: u64, out: u8, inn: u8) -> u64
         requires reduced { value < 2 ^ degree self.now.polynomial }
-        ensures rolled { (window : List ℕ) → length window ≡ 48 → slice_index window 0 ≡ out
+        ensures rolled { (window : List ℕ) → length window ≡ WINDOW → slice_index window 0 ≡ out
             → value ≡ fingerprint self.now.polynomial window
             → result ≡ fingerprint self.now.polynomial (drop 1 window ++ inn ∷ []) }
         ensures reduced { result < 2 ^ degree self.now.polynomial }
     {
-        let kept = value ^ self.leaving[usize::from(out)];
+        let kept = value ^ self.leaving_entries[usize::from(out)];
         let high = kept >> self.shift;
         let low = kept & self.low_mask;
-        ((low << 8) | u64::from(inn)) ^ self.appending[high as usize]
+        ((low << 8) | u64::from(inn)) ^ self.appending_entries[high as usize]
     }
 }
 
-// The remainder of each byte with 47 zero bytes behind it.
+// The remainder of each byte as the oldest of a window whose other bytes are zero.
 fn leaving_table(divisor: Divisor) -> [u64; BYTE_VALUES]
-    ensures { (b : ℕ) → b < 256 → slice_index result b ≡ leaving_entry divisor.polynomial b }
+    ensures entries { (b : ℕ) → b < BYTE_VALUES → slice_index result b ≡ leaving_entry divisor.polynomial b }
 {
     let mut table = [0; BYTE_VALUES];
     for (byte, entry) in table.iter_mut().enumerate() {
@@ -96,10 +98,10 @@ fn leaving_table(divisor: Divisor) -> [u64; BYTE_VALUES]
     table
 }
 
-// The remainder of each byte, as the highest eight bits of a remainder, with a zero byte behind it.
+// The remainder of each byte, as the highest eight bits of a remainder, with a zero byte after it.
 fn appending_table(divisor: Divisor, shift: u32) -> [u64; BYTE_VALUES]
     requires highest_byte { shift + 8 ≡ degree divisor.polynomial }
-    ensures { (b : ℕ) → b < 256 → slice_index result b ≡ appending_entry divisor.polynomial b }
+    ensures entries { (b : ℕ) → b < BYTE_VALUES → slice_index result b ≡ appending_entry divisor.polynomial b }
 {
     let mut table = [0; BYTE_VALUES];
     for (byte, entry) in table.iter_mut().enumerate() {

@@ -1,7 +1,7 @@
 ghost use Rattle.std.specs.Prelude.{◌≡◌, ◌%◌, ◌^◌, ◌<◌, ◌↔◌, IsTrue, [], ◌∷◌, ◌++◌, drop, length, slice_index};
 
 use crate::tables::{Tables, WINDOW_SIZE};
-use sd_base::Params;
+use sd_base::{Params, WINDOW};
 use std::marker::Model;
 
 /// The last 48 bytes of a text with Rabin's fingerprint of them (LBFS, SOSP 2001, section 3.1).
@@ -14,9 +14,9 @@ pub struct Window {
 }
 
 impl Model for Window {
-    ghost use Rattle.rabin_window.specs.Window.{Region, oldest_first, IsWindow};
+    ghost use Rattle.rabin_window.specs.Window.{WindowView, oldest_first, IsWindow};
 
-    ghost Value = { Region };
+    ghost Value = { WindowView };
 
     ghost view = { λ w. record { polynomial = w.polynomial; bytes = oldest_first w.oldest w.ring } };
 
@@ -28,9 +28,9 @@ impl Window {
     ghost use Rattle.sd_base.specs.Cutting.{is_match};
     ghost use Rattle.sd_base.specs.Params.{numbers_of};
 
-    /// The window of 48 bytes.
+    /// The window that has these 48 bytes.
     pub fn start(tables: &Tables, bytes: &[u8]) -> Window
-        requires whole { length bytes.now ≡ 48 }
+        requires whole { length bytes.now ≡ WINDOW }
         ensures polynomial { result.polynomial ≡ tables.now.polynomial }
         ensures bytes { result.bytes ≡ bytes.now }
     {
@@ -44,8 +44,8 @@ impl Window {
         }
     }
 
-    /// Moves the window by a byte: its oldest byte, `out`, leaves, and `inn` is appended. The fingerprint follows by two
-    /// look-ups, with no bit divided.
+    /// Moves the window by a byte: its oldest byte, `out`, leaves, and `inn` is appended. The
+    /// fingerprint follows by two look-ups, without a division.
     pub fn slide(&mut self, tables: &Tables, out: u8, inn: u8)
         requires same_tables { tables.now.polynomial ≡ self.old.polynomial }
         requires oldest { slice_index self.old.bytes 0 ≡ out }
@@ -65,7 +65,7 @@ impl Window {
     pub fn value(&self) -> u64
         ensures fingerprint { result ≡ fingerprint self.now.polynomial self.now.bytes }
         ensures reduced { result < 2 ^ degree self.now.polynomial }
-        ensures whole { length self.now.bytes ≡ 48 }
+        ensures whole { length self.now.bytes ≡ WINDOW }
     {
         self.value
     }

@@ -3,13 +3,14 @@ ghost use Rattle.std.specs.Prelude.{◌≡◌, slice_index};
 use super::*;
 use sd_base::Params;
 
-// The parameters of degree 63 under which the windows below are worked out by hand: 2^63 is 1 modulo the polynomial, so
-// the bit at place k counts at place k modulo 63.
+// The parameters of degree 63 under which the windows below are worked out by hand: 2^63 is 1
+// modulo the polynomial, so the bit at place k counts at place k modulo 63.
 const POLYNOMIAL: u64 = 0x8000_0000_0000_0001;
 
-// 48 bytes, all the same but for the first and the last.
-fn region(first: u8, between: u8, last: u8) -> [u8; 48]
-    ensures { slice_index result 0 ≡ first }
+// 48 bytes, all the same except the first and the last. The length is written out, so that another
+// length of a window is refused here.
+fn window_of(first: u8, between: u8, last: u8) -> [u8; 48]
+    ensures first { slice_index result 0 ≡ first }
 {
     let mut bytes = [between; 48];
     bytes[0] = first;
@@ -17,14 +18,15 @@ fn region(first: u8, between: u8, last: u8) -> [u8; 48]
     bytes
 }
 
-// The window whose last byte is 1 is the polynomial 1; the one whose first byte is 1 is the power 376, which is five
-// times 63 and 61; of 384 ones the places 0 to 5 come seven times, and all others six times.
+// The window whose last byte is 1 is the polynomial 1. The one whose first byte is 1 is the power
+// 376, which is five times 63 and 61. Of 384 ones the places 0 to 5 come seven times, and all
+// others six times.
 #[test]
-fn worked_windows(rt: HostRuntime) {
+fn fingerprints_are_those_worked_out_by_hand(rt: HostRuntime) {
     for (bytes, want) in [
-        (region(0, 0, 1), 1),
-        (region(1, 0, 0), 2_305_843_009_213_693_952),
-        (region(255, 255, 255), 63),
+        (window_of(0, 0, 1), 1),
+        (window_of(1, 0, 0), 2_305_843_009_213_693_952),
+        (window_of(255, 255, 255), 63),
     ] {
         let Ok(params) = Params::new(POLYNOMIAL, 13, 1, 48, 48) else {
             panic!(rt; "the parameters are valid");
@@ -37,12 +39,12 @@ fn worked_windows(rt: HostRuntime) {
 
 // A zero byte appended to the polynomial 1 makes it the power 8.
 #[test]
-fn worked_slide(rt: HostRuntime) {
+fn sliding_in_a_zero_byte_multiplies_by_256(rt: HostRuntime) {
     let Ok(params) = Params::new(POLYNOMIAL, 13, 1, 48, 48) else {
         panic!(rt; "the parameters are valid");
     };
     let tables = Tables::new(&params);
-    let mut window = Window::start(&tables, &region(0, 0, 1));
+    let mut window = Window::start(&tables, &window_of(0, 0, 1));
     window.slide(&tables, 0, 0);
     assert_eq!(rt; window.value(), 256);
     assert_eq!(rt; window.is_match(&params), false);

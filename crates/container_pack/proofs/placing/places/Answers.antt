@@ -11,4 +11,4 @@ returns-clause-in_packing c = λ chunks same.
     sym (append-nil spots)
     ∙ ap (λ (l : List ℕ). spots ++ spots_on c.loop-length.fill l) (sym (drop_all c.loop-length.length-index c.args.lengths.now c.loop-length-test.false))
     ∙ c.loop-length.invariant.spots in
-    spots_of-lie_by_lengths c.args.lengths.now chunks c.requires.some same spots placed
+    spots_of-lie_by_lengths c.args.lengths.now chunks c.requires.none_empty same spots placed

@@ -8,4 +8,6 @@ loop-taken-preserved g c = record {
   bounded = search rules;
   taken = takes_more _ _ _ _ _ _ _ (cc) c.loop-taken.invariant.taken c.in_ok-count.ensures.given;
   never_falls = search rules;
+  faultless_counts_none = search rules;
+  stays_faultless = search rules;
 }

@@ -8,4 +8,6 @@ loop-done-preserved g c = record {
   written = appends_more _ _ _ _ _ _ c.loop-done.invariant.written c.in_ok-done.ensures.appended;
   no_call = search rules;
   never_falls = search rules;
+  faultless_counts_none = search rules;
+  stays_faultless = search rules;
 }

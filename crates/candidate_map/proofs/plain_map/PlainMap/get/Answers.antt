@@ -15,5 +15,8 @@ returns c =
     let map = c.self.inside in
     let len = length_seen map.words.items map.bits c.args.self.now c.self.view_is in
     let within = word_within map.words.items map.bits c.args.p c.self.invariant (omega arith) in
-    bit_read map.words.items map.bits c.args.p c.index.result.now c.args.self.now c.self.invariant c.self.view_is
-    (get_or_read map.words.items (c.args.p / 64) c.index.result.now within c.index.ensures 0)
+    record {
+      member =
+          bit_read map.words.items map.bits c.args.p c.index.result.now c.args.self.now c.self.invariant
+          c.self.view_is (get_or_read map.words.items (c.args.p / 64) c.index.result.now within c.index.ensures 0);
+    }

@@ -2,7 +2,7 @@ use Rattle.std.proofs.Common.{◌≡◌, ℕ, ◌+◌, ◌*◌, ◌<◌, ◌≤�
 use Rattle.candidate_map.specs.Words.{is_set}
 use Rattle.candidate_map.proofs.plain_map.PlainMap.next_in_words.Given as goal
 
--- from position p up to the place that comes next, nothing is set
+-- from position p up to the place that comes next no bit is set
 abbrev pub invariant-loop-index : goal.invariant-loop-index
 invariant-loop-index l = record {
   in_word : l.from < 64;

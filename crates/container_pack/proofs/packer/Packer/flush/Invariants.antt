@@ -13,4 +13,6 @@ invariant-loop-number g l = record {
   no_call : l.number ≡ l.self.first_unflushed → l.shelf ≡ l.initial.shelf;
   same_files : SameFiles (g.F.Shelf.files l.initial.shelf) (g.F.Shelf.files l.shelf);
   never_falls : g.F.Shelf.faults l.initial.shelf ≤ g.F.Shelf.faults l.shelf;
+  faultless_counts_none : g.F.Shelf.faultless l.initial.shelf → g.F.Shelf.faults l.shelf ≡ g.F.Shelf.faults l.initial.shelf;
+  stays_faultless : g.F.Shelf.faultless l.initial.shelf → g.F.Shelf.faultless l.shelf;
 }

@@ -23,6 +23,6 @@ invariant_of-result c =
     record {
       highest_byte = omega (arith, divisor.degree_is);
       masked = ap (λ x. x - 1) (one_shl (divisor.highest - 8) 64 (omega (arith, divisor.degree_is)));
-      leaves = c.leaving_table.ensures;
-      appends = c.appending_table.ensures;
+      leaves = c.leaving_table.ensures.entries;
+      appends = c.appending_table.ensures.entries;
     }

@@ -1,12 +1,12 @@
 use Rattle.std.proofs.Common.{◌^◌, ◌<◌, [], ◌∷◌, ◌++◌, drop, arith, sym, ap, ◌∙◌, subst}
 use Rattle.sd_base.specs.Polynomial.{degree, fingerprint}
-use Rattle.rabin_window.specs.Tables.{Divides}
+use Rattle.rabin_window.specs.Tables.{TablesView}
 use Rattle.rabin_window.proofs.Roll.{high_below, rolled, rolled_below}
 use Rattle.rabin_window.proofs.tables.Tables.roll.Goals as goal
 
 pub bounds-self-inside-high : goal.bounds-self-inside-high
 bounds-self-inside-high c =
-    let same = ap (λ (t : Divides). t.polynomial) c.self.view_is in
+    let same = ap (λ (t : TablesView). t.polynomial) c.self.view_is in
     let below = subst (λ q. c.args.value < 2 ^ degree q) (sym same) c.requires.reduced in
     high_below c.self.invariant c.self.inside.divisor.valid c.args.value c.args.out c.from.result c.from.ensures (omega arith) below
 
@@ -15,7 +15,7 @@ offset_bounds-self-inside-high c = omega (arith, bounds-self-inside-high c)
 
 pub returns-clause-rolled : goal.returns-clause-rolled
 returns-clause-rolled c window size oldest value_is =
-    let same = ap (λ (t : Divides). t.polynomial) c.self.view_is in
+    let same = ap (λ (t : TablesView). t.polynomial) c.self.view_is in
     let below = subst (λ q. c.args.value < 2 ^ degree q) (sym same) c.requires.reduced in
     rolled c.self.invariant c.self.inside.divisor.valid c.args.value c.args.out c.from.result c.args.inn c.from-2.result
     c.from.ensures c.from-2.ensures (omega arith) (omega arith) below window size oldest
@@ -24,7 +24,7 @@ returns-clause-rolled c window size oldest value_is =
 
 pub returns-clause-reduced : goal.returns-clause-reduced
 returns-clause-reduced c =
-    let same = ap (λ (t : Divides). t.polynomial) c.self.view_is in
+    let same = ap (λ (t : TablesView). t.polynomial) c.self.view_is in
     let below = subst (λ q. c.args.value < 2 ^ degree q) (sym same) c.requires.reduced in
     let rolled =
     rolled_below c.self.invariant c.self.inside.divisor.valid c.args.value c.args.out c.from.result c.args.inn c.from-2.result

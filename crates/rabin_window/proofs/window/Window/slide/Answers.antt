@@ -1,16 +1,16 @@
 use Rattle.std.proofs.Common.{◌≡◌, ◌^◌, ◌<◌, [], ◌∷◌, ◌++◌, length, get_or, drop, set, arith, sym, ap, ◌∙◌, subst, inl, inr}
 use Rattle.sd_base.specs.Polynomial.{degree, fingerprint}
-use Rattle.rabin_window.specs.Window.{Region, oldest_first}
+use Rattle.rabin_window.specs.Window.{WindowView, oldest_first}
 use Rattle.rabin_window.proofs.Ring.{length-oldest_first, oldest_first-set}
 use Rattle.rabin_window.proofs.window.Window.slide.Goals as goal
 use Rattle.rabin_window.proofs.window.Window.slide.Goals.{then-self-eq-WINDOW_SIZE, else-self-eq-WINDOW_SIZE}
 
 -- the ring's bytes before, as the model shows them
 bytes_are : (c : goal.After-self-2-1) → oldest_first c.self.inside.oldest c.self.inside.ring ≡ c.args.self.now.bytes
-bytes_are c = ap (λ (r : Region). r.bytes) c.self.view_is
+bytes_are c = ap (λ (r : WindowView). r.bytes) c.self.view_is
 
 polynomial_is : (c : goal.After-self-2-1) → c.self.inside.polynomial ≡ c.args.self.now.polynomial
-polynomial_is c = ap (λ (r : Region). r.polynomial) c.self.view_is
+polynomial_is c = ap (λ (r : WindowView). r.polynomial) c.self.view_is
 
 -- the ring's bytes after
 moved : (c : goal.After-self-2-1) → oldest_first c.if-self-eq-WINDOW_SIZE.self (set c.self.inside.ring c.self.inside.oldest c.args.inn)

@@ -1,8 +1,10 @@
-use crate::PlainMap;
+use super::PlainMap;
 use std::test::Fail;
 
 #[test]
-fn one_position_of_301(rt: HostRuntime) -> Result<(), Fail> {
+fn next_from_finds_a_position_up_to_itself_and_nothing_above_it(
+    rt: HostRuntime,
+) -> Result<(), Fail> {
     let mut map = PlainMap::new(rt.alloc(), 301)?;
     assert_eq!(rt; map.bits(), 301);
     assert_eq!(rt; map.next_from(0), None);
@@ -22,7 +24,7 @@ fn one_position_of_301(rt: HostRuntime) -> Result<(), Fail> {
 }
 
 #[test]
-fn one_position_up_to_a_last(rt: HostRuntime) -> Result<(), Fail> {
+fn next_within_finds_a_position_up_to_the_last_and_no_further(rt: HostRuntime) -> Result<(), Fail> {
     let mut map = PlainMap::new(rt.alloc(), 301)?;
     assert!(rt; 100 < map.bits());
     map.set(100);
@@ -41,7 +43,7 @@ fn one_position_up_to_a_last(rt: HostRuntime) -> Result<(), Fail> {
 }
 
 #[test]
-fn positions_at_the_edges_of_words(rt: HostRuntime) -> Result<(), Fail> {
+fn positions_at_the_edges_of_words_are_found(rt: HostRuntime) -> Result<(), Fail> {
     let mut map = PlainMap::new(rt.alloc(), 301)?;
     for p in [63, 64, 127, 300] {
         assert!(rt; p < map.bits());
@@ -77,7 +79,7 @@ fn positions_at_the_edges_of_words(rt: HostRuntime) -> Result<(), Fail> {
 }
 
 #[test]
-fn no_bits(rt: HostRuntime) -> Result<(), Fail> {
+fn a_map_of_no_bits_has_no_position(rt: HostRuntime) -> Result<(), Fail> {
     let map = PlainMap::new(rt.alloc(), 0)?;
     assert_eq!(rt; map.bits(), 0);
     assert_eq!(rt; map.next_from(0), None);

@@ -1,4 +1,4 @@
-//! A chunk read back from its spot.
+//! Chunks read back from their spots.
 ghost use Rattle.std.specs.Prelude.{◌≡◌, ◌≤◌, ℕ, List, vec_len, IfOk, IfSome, IsErrOf};
 ghost use Rattle.edge_traits.specs.declared.shelf.File.TheVariants.{Container};
 ghost use Rattle.edge_traits.specs.Faults.{Rose};
@@ -9,8 +9,8 @@ use crate::Spot;
 use edge_traits::{EdgeFault, File, Shelf};
 use std::alloc::Global;
 
-/// Reads the bytes at a spot, as many as `length` or, where the file ends before, fewer. Changes nothing. `Failed` comes
-/// only where the shelf's count of faults rose. Defined by this project.
+/// Reads the bytes at a spot: `length` of them, or fewer if the file ends before. Changes no file. It takes memory for
+/// `length` bytes. `Failed` is returned only if the shelf's count of faults rose.
 pub fn read_chunk<F: Shelf>(
     alloc: Global,
     shelf: &mut F,
@@ -30,6 +30,10 @@ pub fn read_chunk<F: Shelf>(
 
     ensures failed { IsErrOf result EdgeFault.Failed → Rose (F.faults shelf.old) (F.faults shelf.new) }
     ensures never_falls { F.faults shelf.old ≤ F.faults shelf.new }
+
+    ensures faultless_serves { F.faultless shelf.old → IsErrOf result EdgeFault.Failed → ⊥ }
+    ensures faultless_counts_none { F.faultless shelf.old → F.faults shelf.new ≡ F.faults shelf.old }
+    ensures stays_faultless { F.faultless shelf.old → F.faultless shelf.new }
 {
     let mut chunk = vec![in alloc; 0; length as usize]?;
     let file = File::Container(generation, spot.container);

@@ -3,7 +3,7 @@ use Rattle.std.proofs.lemmas.Grind.{common_steps}
 use Rattle.edge_traits.specs.declared.shelf.File.TheVariants.{Container}
 use Rattle.edge_traits.specs.Shelf.{content, IsReadAt}
 use Rattle.container_pack.proofs.ShelfLemmas.{IsStored-read}
-use Rattle.container_pack.proofs.reading.read_chunk.Goals as goal
+use Rattle.container_pack.proofs.chunk_reader.read_chunk.Goals as goal
 
 pub returns-clause-stored : goal.returns-clause-stored
 returns-clause-stored g c =

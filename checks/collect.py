@@ -1,0 +1,45 @@
+"""Runs the tests of every subject. A test or a file that is left out makes the run fail."""
+
+import importlib
+import os
+import sys
+from pathlib import Path
+
+import harness
+
+# The number of tests in the file of each subject.
+SUBJECTS = {"plan": 33, "words": 5, "stores": 4, "streams": 24, "documents": 6, "demo": 2}
+OTHERS = {"collect", "harness", "reference", "rooms"}
+
+
+def collect(subject):
+    """Reads in the tests of a subject, and returns how many there are."""
+    before = len(harness.TESTS)
+    importlib.import_module(subject)
+    return len(harness.TESTS) - before
+
+
+def left_out():
+    """Says of each file which tests the list above does not have."""
+    files = {path.stem for path in Path(__file__).parent.glob("*.py")}
+    for name in sorted(files ^ {*SUBJECTS, *OTHERS}):
+        yield f"{name}.py is a file of tests only here, or only in the list of subjects"
+    for subject, wanted in SUBJECTS.items():
+        if wanted != (came := collect(subject)):
+            yield f"{subject}.py: wanted {wanted} tests, came {came}"
+
+
+def main():
+    passed, failed = 0, 0
+    faults = list(left_out())
+    if not os.access(harness.PROGRAM, os.X_OK):
+        faults.append(f"{harness.PROGRAM} is not there or cannot be run: rt ci builds it")
+    print(*faults, sep="\n", end="\n" if faults else "")
+    if not faults:
+        passed, failed = harness.run_tests()
+    print(f"{len(harness.TESTS)} collected, {passed} passed, {failed} failed")
+    return 0 if passed == sum(SUBJECTS.values()) else 1
+
+
+if __name__ == "__main__":
+    sys.exit(main())

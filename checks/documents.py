@@ -1,0 +1,143 @@
+"""What the documents show is what the program does: their examples, statuses, notes and keys."""
+
+import os
+import re
+import shlex
+import tempfile
+from pathlib import Path
+from subprocess import DEVNULL
+from typing import NamedTuple
+
+from harness import (
+    PROGRAM,
+    STATUSES,
+    STORE,
+    Mismatch,
+    each_row,
+    ended,
+    expect_early_refusal,
+    expect_mismatch,
+    expect_same,
+    test,
+)
+from reference import DEFAULTS
+
+ROOT = Path(__file__).resolve().parent.parent
+COMMANDS = ROOT / "docs/COMMANDS.md"
+README = ROOT / "README.md"
+
+FENCED = re.compile(r"^```[^\n]*\n(.*?)^```$", re.MULTILINE | re.DOTALL)
+PROMPT = "$ "
+
+
+class Example(NamedTuple):
+    command: str
+    output: str
+
+
+def examples_of_block(block):
+    """The commands after a prompt, each with the lines up to the next. A `\\` continues a line."""
+    examples, continues = [], False
+    for line in block.splitlines(keepends=True):
+        if line.startswith(PROMPT):
+            examples.append(Example(line[len(PROMPT) :], ""))
+        elif continues:
+            examples[-1] = examples[-1]._replace(command=examples[-1].command + line)
+        elif examples:
+            examples[-1] = examples[-1]._replace(output=examples[-1].output + line)
+        continues = line.endswith("\\\n") and (continues or line.startswith(PROMPT))
+    return examples
+
+
+def examples_in(text):
+    return [it for block in FENCED.findall(text) for it in examples_of_block(block)]
+
+
+def shown_by(examples):
+    """Runs the examples one after another in one shell, and returns what each shows."""
+    with tempfile.TemporaryDirectory() as folder:
+        os.symlink(PROGRAM, f"{folder}/backup")
+        lines = [f'PATH={folder}:"$PATH"']
+        for number, example in enumerate(examples):
+            # A terminal has the output and the notes.
+            lines.append(f"eval {shlex.quote(example.command)} >{folder}/{number} 2>&1")
+        ended(["bash", "-c", "\n".join(lines)], stdin=DEVNULL, capture_output=True)
+        return [Path(folder, str(number)).read_text() for number in range(len(examples))]
+
+
+def expect_examples(text):
+    examples = examples_in(text)
+    if not examples:
+        raise Mismatch(f"wanted examples with the prompt {PROMPT!r}, came none")
+    for example, came in zip(examples, shown_by(examples)):
+        expect_same(f"what {example.command.strip()!r} shows", example.output, came)
+
+
+@test
+def examples_of_the_commands_come_out():
+    expect_examples(COMMANDS.read_text())
+
+
+@test
+def examples_of_the_readme_come_out():
+    expect_examples(README.read_text())
+
+
+WRONG_EXAMPLES = [
+    ("printf abc | backup s plan", "0 3 ba7816bf8f01cfea\n"),
+    ("printf abc | backup s plan", ""),
+    ("backup s plan </dev/null", "\n"),
+    ("backup s plan bits=17", ""),
+    ("backup s plan bits=17", "backup: bad parameter: bit\n"),
+    ("backup s; echo $?", "backup: bad words at 0: missing\n3\n"),
+]
+
+
+@test
+def examples_with_wrong_output_are_noticed():
+    def expect_row(command, output):
+        text = f"```\n{PROMPT}{command}\n{output}```\n"
+        expect_same("the examples", [Example(f"{command}\n", output)], examples_in(text))
+        expect_mismatch(lambda: expect_examples(text))
+
+    each_row(WRONG_EXAMPLES, expect_row)
+
+
+def rows_of_tables(path):
+    """The cells of each row of each table of a document, as words without their quotes."""
+    lines = (it for it in path.read_text().splitlines() if it.startswith("|"))
+    return [[cell.strip().strip("`") for cell in line.strip("|").split("|")] for line in lines]
+
+
+NOTE = re.compile(r"bad words at [0-9]+: [a-z]+|bad parameter: [a-z]+")
+
+
+@test
+def words_in_the_table_of_notes_are_refused_with_them():
+    rows = 0
+    for words, *cells in rows_of_tables(COMMANDS):
+        for note in filter(NOTE.fullmatch, cells):
+            given = [] if words == "none" else shlex.split(words)
+            expect_early_refusal([STORE, *given], note)
+            rows += 1
+    if not rows:
+        raise Mismatch("wanted a table of words and notes, came none")
+
+
+@test
+def table_of_statuses_has_each_status_with_its_note():
+    rows = [row for row in rows_of_tables(COMMANDS) if row[0].isdecimal()]
+    shown = {int(status): note for status, note, *_ in rows}
+    wanted = {status: start for start, status in STATUSES.items()}
+    expect_same("the statuses", sorted([0, *wanted]), sorted(shown))
+    for status, start in wanted.items():
+        expect_same(f"the note of status {status}", start, shown[status][: len(start)])
+
+
+@test
+def table_of_keys_has_the_defaults():
+    rows = rows_of_tables(COMMANDS)
+    for key, number in vars(DEFAULTS).items():
+        default = f"{number:x}" if key == "polynomial" else str(number)
+        if not any(row[0] == key and default in row for row in rows):
+            raise Mismatch(f"wanted a row of {key} with {default}, came none")

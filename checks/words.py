@@ -1,0 +1,207 @@
+"""Which words are refused and with what note."""
+
+import reference
+from harness import (
+    PROGRAM,
+    STORE,
+    each_row,
+    ended,
+    expect,
+    expect_early_refusal,
+    expect_refusal,
+    run,
+    test,
+)
+from reference import DEFAULTS
+
+ABC = reference.plan(DEFAULTS, b"abc")
+
+
+BAD_PARAMS = [
+    (["polynomial=0"], "polynomial"),
+    (["polynomial=1"], "polynomial"),
+    (["polynomial=8001"], "polynomial"),
+    (["polynomial=ffff"], "polynomial"),
+    (["polynomial=10000"], "polynomial"),
+    (["polynomial=8000000000000000"], "polynomial"),
+    (["polynomial=fffffffffffffffe"], "polynomial"),
+    (["bits=0"], "bits"),
+    (["bits=17"], "bits"),
+    (["bits=4294967295"], "bits"),
+    (["target=8192"], "target"),
+    (["target=4294967295"], "target"),
+    (["bits=1", "target=2"], "target"),
+    (["bits=6"], "target"),
+    (["min=0"], "min"),
+    (["min=47"], "min"),
+    (["max=2047"], "max"),
+    (["max=0"], "max"),
+    (["max=1048577"], "max"),
+    (["max=4294967295"], "max"),
+    (["min=65537"], "max"),
+    (["min=1048577", "max=1048577"], "max"),
+    (["min=49", "max=48"], "max"),
+    (["max=0", "min=0", "target=9999", "bits=99", "polynomial=2"], "polynomial"),
+    (["max=0", "min=0", "target=9999", "bits=99"], "bits"),
+    (["max=0", "min=0", "target=9999"], "target"),
+    (["max=0", "min=0"], "min"),
+]
+
+
+@test
+def bad_parameters_are_refused_by_the_first_kind():
+    def expect_row(keys, kind):
+        expect_early_refusal([STORE, "plan", *keys], f"bad parameter: {kind}")
+
+    each_row(BAD_PARAMS, expect_row)
+
+
+ALL_KEYS = ["polynomial=10001", "bits=9", "target=5", "min=48", "max=300"]
+
+MISSING, COMMAND, KEY, VALUE = "0: missing", "0: command", "1: key", "1: value"
+WRONG_WORDS = [
+    ([], MISSING),
+    ([""], MISSING),
+    (["store"], MISSING),
+    (["plan"], MISSING),
+    (["--help"], MISSING),
+    (["--"], MISSING),
+    (["store", "--help"], COMMAND),
+    (["store", "--version"], COMMAND),
+    (["store", "--"], COMMAND),
+    (["store", "--", "plan"], COMMAND),
+    (["--", "store", "plan"], COMMAND),
+    (["store", "Plan"], COMMAND),
+    (["store", "plans"], COMMAND),
+    (["store", "pla"], COMMAND),
+    (["store", ""], COMMAND),
+    (["store", "", "plan"], COMMAND),
+    (["store", " plan"], COMMAND),
+    (["store", "plan "], COMMAND),
+    (["store", "plan\n"], COMMAND),
+    (["store", "\tplan"], COMMAND),
+    (["store", "plan bits=9"], COMMAND),
+    (["store", "plän"], COMMAND),
+    (["store", "ｐlan"], COMMAND),
+    (["store", "store", "plan"], COMMAND),
+    # Commands of a store are not built.
+    (["store", "init"], COMMAND),
+    (["store", "ingest", "a"], COMMAND),
+    (["store", "bulk", "7", "1"], COMMAND),
+    (["store", "list"], COMMAND),
+    (["store", "restore", "a"], COMMAND),
+    (["store", "drop", "a"], COMMAND),
+    (["store", "refs"], COMMAND),
+    (["store", "audit"], COMMAND),
+    # If a word is not UTF-8, its place is not known.
+    (["store", b"\xff"], COMMAND),
+    (["store", "plan", b"\xff"], COMMAND),
+    (["store", "plan", "bits=9", b"bits=\xff"], COMMAND),
+    ([b"\xff", "plan"], COMMAND),
+    (["store", "plan", "speed=3"], KEY),
+    (["store", "plan", "plan"], KEY),
+    (["store", "plan", ""], KEY),
+    (["store", "plan", "--"], KEY),
+    (["store", "plan", "--", "bits=9"], KEY),
+    (["store", "plan", "--help"], KEY),
+    (["store", "plan", "--bits=9"], KEY),
+    (["store", "plan", "speed=3", "speed=3"], KEY),
+    (["store", "plan", "bits"], KEY),
+    (["store", "plan", "=3"], KEY),
+    (["store", "plan", "="], KEY),
+    (["store", "plan", "Bits=3"], KEY),
+    (["store", "plan", "bit=9"], KEY),
+    (["store", "plan", " bits=9"], KEY),
+    (["store", "plan", "bits =9"], KEY),
+    (["store", "plan", "\nbits=9"], KEY),
+    (["store", "plan", "ｂits=9"], KEY),
+    (["store", "plan", "workers=2"], KEY),
+    (["store", "plan", "bits=13", "speed=3"], "2: key"),
+    (["store", "plan", "bits=13", "bits=99"], "2: twice"),
+    (["store", "plan", "bits=13", "max=0", "bits=x"], "3: twice"),
+    (["store", "plan", "bits=13", "bits"], "2: key"),
+    (["store", "plan", "bits="], VALUE),
+    (["store", "plan", "bits==3"], VALUE),
+    (["store", "plan", "bits=9=9"], VALUE),
+    (["store", "plan", "bits=07"], VALUE),
+    (["store", "plan", "bits=00"], VALUE),
+    (["store", "plan", "bits=+7"], VALUE),
+    (["store", "plan", "bits=-7"], VALUE),
+    (["store", "plan", "bits= 7"], VALUE),
+    (["store", "plan", "bits=7 "], VALUE),
+    (["store", "plan", "bits=7\n"], VALUE),
+    (["store", "plan", "bits=7.0"], VALUE),
+    (["store", "plan", "bits=1_0"], VALUE),
+    (["store", "plan", "bits=a"], VALUE),
+    (["store", "plan", "bits=９"], VALUE),
+    (["store", "plan", "bits=0x7"], VALUE),
+    (["store", "plan", "max=4294967296"], VALUE),
+    (["store", "plan", "max=4295032832"], VALUE),
+    (["store", "plan", "max=18446744073709551615"], VALUE),
+    (["store", "plan", "max=18446744073709551616"], VALUE),
+    (["store", "plan", "max=18446744073709617152"], VALUE),
+    (["store", "plan", "max=100000000000000000000"], VALUE),
+    (["store", "plan", "polynomial="], VALUE),
+    (["store", "plan", "polynomial=0x11"], VALUE),
+    (["store", "plan", "polynomial=1000g"], VALUE),
+    (["store", "plan", "polynomial= 10001"], VALUE),
+    (["store", "plan", "polynomial=+10001"], VALUE),
+    (["store", "plan", "polynomial=00000000000010001"], VALUE),
+    (["store", "plan", "min=64", "max=x", "speed=3"], "2: value"),
+    # Bad words come before bad parameters.
+    (["store", "plan", "bits=99", "speed=3"], "2: key"),
+    (["store", "plan", *ALL_KEYS, "speed=3"], "6: key"),
+    (["store", "plan", *ALL_KEYS, ""], "6: key"),
+    (["store", "plan", *ALL_KEYS, "bits=9"], "6: twice"),
+    (["store", "plan", *ALL_KEYS, "polynomial=10001"], "6: twice"),
+    (["store", "plan", *ALL_KEYS, "max=x"], "6: twice"),
+    (["store", "plan", *ALL_KEYS, "speed=3", "bits=9"], "6: key"),
+    # Many words, words as long as the system takes them, and lengths that are short modulo 2^8
+    # or 2^16.
+    (["store"] * 1000, COMMAND),
+    (["store", "plan"] + ["speed=3"] * 1000, KEY),
+    (["store", "plan"] + ["bits=9"] * 1000, "2: twice"),
+    (["store", "plan", *ALL_KEYS] + ["plan"] * 1000, "6: key"),
+    (["store", "p" * 131_000], COMMAND),
+    (["store", "plan" + "n" * 2**8], COMMAND),
+    (["store", "plan" + "n" * 2**16], COMMAND),
+    (["store", "plan" * 32_750], COMMAND),
+    (["store", "plan" + " " * 131_000], COMMAND),
+    (["store", "plan", "b" * 131_000], KEY),
+    (["store", "plan", "b" * 130_000 + "=9"], KEY),
+    (["store", "plan", "bits" + "s" * 2**8 + "=9"], KEY),
+    (["store", "plan", "bits" + "s" * 2**16 + "=9"], KEY),
+    (["store", "plan", "bits=13" + "0" * 2**8], VALUE),
+    (["store", "plan", "bits=13" + "0" * 2**16], VALUE),
+    (["store", "plan", "bits=" + "9" * 131_000], VALUE),
+    (["store", "plan", "bits=" + "0" * 131_000], VALUE),
+    (["store", "plan", "polynomial=" + "0" * 130_000 + "10001"], VALUE),
+]
+
+
+@test
+def wrong_words_are_refused_by_their_place():
+    def expect_row(words, end):
+        expect_early_refusal(words, f"bad words at {end}")
+
+    each_row(WRONG_WORDS, expect_row)
+
+
+@test
+def program_name_that_is_no_text_is_refused_like_a_word():
+    came = ended([b"\xff", STORE, "plan"], executable=PROGRAM, input=b"abc", capture_output=True)
+    expect_refusal(came, "bad words at 0: command")
+
+
+@test
+def five_keys_are_taken_in_any_order():
+    text = bytes(700)
+    params = reference.Params(polynomial=0x10001, bits=9, target=5, min=48, max=300)
+    for start in range(5):
+        keys = ALL_KEYS[start:] + ALL_KEYS[:start]
+        expect(run([STORE, "plan", *keys], text), output=reference.plan(params, text))
+
+
+@test
+def environment_does_not_matter():
+    expect(run([STORE, "plan"], b"abc", starter=("env", "-i")), output=ABC)
