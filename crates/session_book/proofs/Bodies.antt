@@ -185,5 +185,5 @@ chunk_lengths (chunk ∷ chunks) fits =
 -- a record of the grammar, with its drop, is far shorter than a number of four bytes can say
 pub body_is_short : (entry : Record) → IsRecord entry → 37 + (length (body_of entry) + 41) ≤ 2 ^ 30
 body_is_short (Ingest entry) fits =
-    omega (arith, length_ingest_body entry, length_entries entry.recipe, chunk_lengths entry.fresh (recursion_from_All IsNewChunk entry.fresh fits.chunks), fits.name.few, fits.chunk_limit, fits.place_limit)
+    omega (arith, length_ingest_body entry, length_entries entry.recipe, chunk_lengths entry.fresh (recursion_from_All IsNewChunk entry.fresh fits.chunks), fits.name.within_limit, fits.chunk_limit, fits.place_limit)
 body_is_short (Drop session) fits = omega arith
