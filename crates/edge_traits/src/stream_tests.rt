@@ -166,21 +166,21 @@ fn an_interrupted_read_is_tried_again(rt: HostRuntime) -> Result<(), Fail> {
 /// Standard output that takes so many bytes of each piece, and fails at a piece of none. It records what it took: the last
 /// eight bytes, in big-endian order.
 #[derive(Drop)]
-struct Takes {
+struct Consumes {
     bytes: usize,
     taken: AtomicU64,
 }
 
-impl Takes {
+impl Consumes {
     fn new(bytes: usize) -> Self {
-        Takes {
+        Consumes {
             bytes,
             taken: AtomicU64::new(0),
         }
     }
 }
 
-impl Print for Takes {
+impl Print for Consumes {
     fn print<D: Display + Drop>(&self, _value: D) -> io::Result<()> {
         Ok(())
     }
@@ -208,17 +208,17 @@ impl Print for Takes {
 
 #[test]
 fn a_write_that_takes_nothing_fails(rt: HostRuntime) -> Result<(), Fail> {
-    let mut sink = StdSink::new(Takes::new(2));
+    let mut sink = StdSink::new(Consumes::new(2));
     assert_eq!(rt; sink.write(b"abc")?, 2);
     assert_eq!(rt; sink.write(b"").err(), Some(EdgeFault::Failed));
-    let mut deaf = StdSink::new(Takes::new(0));
+    let mut deaf = StdSink::new(Consumes::new(0));
     assert_eq!(rt; deaf.write(b"abc").err(), Some(EdgeFault::Failed));
     Ok(())
 }
 
 #[test]
 fn standard_output_receives_the_bytes_in_order(rt: HostRuntime) -> Result<(), Fail> {
-    let output = Takes::new(2);
+    let output = Consumes::new(2);
     write_all(&mut StdSink::new(&output), b"abcde")?;
     assert_eq!(rt; output.taken.load(SeqCst).to_be_bytes(), *b"\0\0\0abcde");
     Ok(())
