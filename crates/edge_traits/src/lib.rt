@@ -47,4 +47,6 @@ pub use std_source::StdSource;
 #[cfg(test)]
 mod shelf_tests;
 #[cfg(test)]
+mod std_tests;
+#[cfg(test)]
 mod stream_tests;
