@@ -1,4 +1,5 @@
--- bytes that are taken from a source or written to a sink, call after call: for `read_all`, `write_all` and `MemSource`
+-- Streams of bytes: reads and writes, one after another. For `read_all`, `write_all` and
+-- `MemSource`.
 mod Streams
--- looking up, changing and adding the entries of a shelf in memory: for `entries`, which `MemShelf` uses
+-- The entries of a shelf in memory: looked up, changed and added. For `entries` and `MemShelf`.
 mod EntryLemmas

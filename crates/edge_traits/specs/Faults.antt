@@ -18,8 +18,8 @@ pub record CountsFault (before after : ℕ) : Type 0 where
   pub rose : Rose before after
   pub never_falls : before ≤ after
 
--- One more fault is counted exactly if the call returned `Failed`. The count never reaches 2^64 - 1,
--- so here `Rose` means that it is greater.
+-- One more fault is counted exactly if the call returned `Failed`. The count never reaches 2^64 -
+-- 1, so here `Rose` means that it is greater.
 pub record CountsFailed {T : Type 0} (result : Result T EdgeFault) (before after : ℕ) : Type 0 where
   pub failed : IsErrOf result Failed → after ≡ before + 1
   pub out_of_memory : IsErrOf result OutOfMemory → after ≡ before

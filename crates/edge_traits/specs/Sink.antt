@@ -1,4 +1,5 @@
--- What a write does to the bytes that were written. `None` stands for a sink that is not observable.
+-- What a write does to the bytes that were written. `None` stands for a sink that is not
+-- observable.
 use Rattle.std.specs.Prelude.{◌≡◌, ℕ, ◌≤◌, List, ◌++◌, length, take, Option, option_map}
 
 -- these bytes were written after those before

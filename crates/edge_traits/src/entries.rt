@@ -1,5 +1,5 @@
-//! The files of a shelf in memory, one entry for each file. A file that has no entry counts as empty,
-//! and it is not loose.
+//! The files of a shelf in memory, one entry for each file. A file that has no entry counts as
+//! empty, and it is not loose.
 ghost use Rattle.std.specs.Prelude.{◌≡◌, ◌≢◌, ◌<◌, ◌++◌, [], ℕ, true, false, length, take, All, IsTrue, ◌↔◌, IfSome, IfNone, IfOk, OnOk, OnErr};
 ghost use Rattle.edge_traits.specs.declared.shelf.File.{File};
 ghost use Rattle.edge_traits.specs.Entries.{bytes_of_file, is_loose_file, IsIndexOf, SameEntries, ChangesEntry};
@@ -43,7 +43,8 @@ pub(crate) fn append(
     file: File,
     piece: &[u8],
 ) -> Result<(), OutOfMemory>
-    ensures bytes { OnOk result (bytes_of_file entries.new.items file ≡ bytes_of_file entries.old.items file ++ piece.now) }
+    ensures bytes { OnOk result
+        (bytes_of_file entries.new.items file ≡ bytes_of_file entries.old.items file ++ piece.now) }
     ensures loose { OnOk result (is_loose_file entries.new.items file ≡ true) }
     ensures others { OnOk result (ChangesEntry file entries.old.items entries.new.items) }
     ensures refused { OnErr result (SameEntries entries.old.items entries.new.items) }
@@ -55,15 +56,16 @@ pub(crate) fn append(
     Ok(())
 }
 
-/// Cuts a file to its first `size` bytes, and it is then loose. An entry needs memory only if the file
-/// has none.
+/// Cuts a file to its first `size` bytes, and it is then loose. An entry needs memory only if the
+/// file has none.
 pub(crate) fn cut(
     alloc: Global,
     entries: &mut Vec<Entry>,
     file: File,
     size: usize,
 ) -> Result<(), OutOfMemory>
-    ensures bytes { OnOk result (bytes_of_file entries.new.items file ≡ take size (bytes_of_file entries.old.items file)) }
+    ensures bytes { OnOk result
+        (bytes_of_file entries.new.items file ≡ take size (bytes_of_file entries.old.items file)) }
     ensures loose { OnOk result (is_loose_file entries.new.items file ≡ true) }
     ensures others { OnOk result (ChangesEntry file entries.old.items entries.new.items) }
     ensures refused { OnErr result (SameEntries entries.old.items entries.new.items) }
@@ -82,7 +84,8 @@ pub(crate) fn mark_loose(
     entries: &mut Vec<Entry>,
     file: File,
 ) -> Result<(), OutOfMemory>
-    ensures bytes { OnOk result (bytes_of_file entries.new.items file ≡ bytes_of_file entries.old.items file) }
+    ensures bytes { OnOk result
+        (bytes_of_file entries.new.items file ≡ bytes_of_file entries.old.items file) }
     ensures loose { OnOk result (is_loose_file entries.new.items file ≡ true) }
     ensures others { OnOk result (ChangesEntry file entries.old.items entries.new.items) }
     ensures refused { OnErr result (SameEntries entries.old.items entries.new.items) }

@@ -27,7 +27,8 @@ impl FaultPlan {
     /// Counts the next call, and returns whether it fails.
     pub(crate) fn count_call(&mut self) -> bool
         ensures fails { IsTrue result ↔ Contains self.old.failing.items self.old.tally.calls }
-        ensures faults { self.new.tally.faults ≡ (if result then self.old.tally.faults + 1 else self.old.tally.faults) }
+        ensures faults { self.new.tally.faults
+            ≡ (if result then self.old.tally.faults + 1 else self.old.tally.faults) }
         ensures calls { self.new.tally.calls ≡ counted_once_more self.old.tally.calls }
         ensures failing { self.new.failing.items ≡ self.old.failing.items }
         ensures stays_past { All (λ number. number < self.old.tally.calls) self.old.failing.items →

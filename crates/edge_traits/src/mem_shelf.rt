@@ -1,4 +1,4 @@
-//! A shelf in memory, which fails at the calls that it was told.
+//! A shelf in memory, which fails at planned calls.
 ghost use Rattle.std.specs.Prelude.{◌≡◌, ◌≢◌, ◌≤◌, ◌++◌, ℕ, [], length, take, drop, true, false, Some, IfOk, IfSome, OnOk, OnErr, IsErrOf, IsNone, if◌then◌else◌, ◌==◌};
 ghost use Rattle.edge_traits.specs.declared.shelf.File.{File};
 ghost use Rattle.edge_traits.specs.Entries.{SameEntries, ChangesEntry};
@@ -11,7 +11,8 @@ use sd_base::OutOfMemory;
 use std::alloc::Global;
 
 /// A shelf in memory. It is observable. All calls of `Shelf` on it are numbered together, from 0. A
-/// call that is to fail, and has no memory for what it keeps, returns `OutOfMemory` and counts no fault.
+/// call that is to fail, and has no memory for what it keeps, returns `OutOfMemory` and counts no
+/// fault.
 #[derive(Drop)]
 pub struct MemShelf {
     alloc: Global,
@@ -22,8 +23,8 @@ pub struct MemShelf {
 impl MemShelf {
     ghost use Rattle.edge_traits.specs.MemShelf.{files_of_shelf, loose_of_shelf, failing_calls, shelf_calls, shelf_faults, IsFaultlessShelf};
 
-    /// A shelf with no files. The calls whose numbers are in `failing` fail. If a number is there more
-    /// than once, the first decides.
+    /// A shelf with no files. The calls whose numbers are in `failing` fail. If a number is there
+    /// more than once, the first decides.
     pub fn new(alloc: Global, failing: Vec<ShelfFail>) -> Self
         ensures files { (f : File) → files_of_shelf result f ≡ [] }
         ensures loose { (f : File) → loose_of_shelf result f ≡ false }
@@ -53,16 +54,18 @@ impl MemShelf {
         entries::is_loose(&self.entries, file)
     }
 
-    /// Makes these the bytes of a file, which is then not loose. It has no number. Memory may run out;
-    /// then nothing has changed.
+    /// Makes these the bytes of a file, which is then not loose. It has no number. It fails only if
+    /// memory runs out, and then nothing has changed.
     pub fn put_file(&mut self, file: File, bytes: &[u8]) -> Result<(), OutOfMemory>
         ensures put { OnOk result (files_of_shelf self.new file ≡ bytes.now) }
         ensures not_loose { OnOk result (loose_of_shelf self.new file ≡ false) }
 
         ensures other_files { (f : File) → f ≢ file → files_of_shelf self.new f ≡ files_of_shelf self.old f }
         ensures other_loose { (f : File) → f ≢ file → loose_of_shelf self.new f ≡ loose_of_shelf self.old f }
-        ensures refused_files { OnErr result ((f : File) → files_of_shelf self.new f ≡ files_of_shelf self.old f) }
-        ensures refused_loose { OnErr result ((f : File) → loose_of_shelf self.new f ≡ loose_of_shelf self.old f) }
+        ensures refused_files { OnErr result
+            ((f : File) → files_of_shelf self.new f ≡ files_of_shelf self.old f) }
+        ensures refused_loose { OnErr result
+            ((f : File) → loose_of_shelf self.new f ≡ loose_of_shelf self.old f) }
 
         ensures failing { failing_calls self.new ≡ failing_calls self.old }
         ensures calls { shelf_calls self.new ≡ shelf_calls self.old }
@@ -109,7 +112,8 @@ impl Shelf for MemShelf {
     }
 
     fn append(&mut self, file: File, bytes: &[u8]) -> Result<(), EdgeFault>
-        ensures appended { OnOk result (files_of_shelf self.new file ≡ files_of_shelf self.old file ++ bytes.now) }
+        ensures appended { OnOk result
+            (files_of_shelf self.new file ≡ files_of_shelf self.old file ++ bytes.now) }
         ensures kept { IsErrOf result EdgeFault.Failed → IfSome (kept_next self.old) (λ kept.
             files_of_shelf self.new file ≡ files_of_shelf self.old file ++ take kept bytes.now) }
         ensures loose { result ≢ Err EdgeFault.OutOfMemory → loose_of_shelf self.new file ≡ true }
@@ -129,10 +133,13 @@ impl Shelf for MemShelf {
     }
 
     fn cut(&mut self, file: File, length: u64) -> Result<(), EdgeFault>
-        ensures cut { OnOk result (files_of_shelf self.new file ≡ take length (files_of_shelf self.old file)) }
+        ensures cut { OnOk result
+            (files_of_shelf self.new file ≡ take length (files_of_shelf self.old file)) }
         ensures kept { IsErrOf result EdgeFault.Failed → IfSome (kept_next self.old) (λ kept.
             files_of_shelf self.new file
-            ≡ (if kept == 0 then files_of_shelf self.old file else take length (files_of_shelf self.old file))) }
+            ≡ (if kept == 0
+            then files_of_shelf self.old file
+            else take length (files_of_shelf self.old file))) }
         ensures loose { result ≢ Err EdgeFault.OutOfMemory → loose_of_shelf self.new file ≡ true }
 
         ensures other_files { (f : File) → f ≢ file → files_of_shelf self.new f ≡ files_of_shelf self.old f }

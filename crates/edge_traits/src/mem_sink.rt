@@ -1,4 +1,4 @@
-//! A sink in memory, which fails at the writes that it was told.
+//! A sink in memory, which fails at planned writes.
 ghost use Rattle.std.specs.Prelude.{◌≡◌, ◌↔◌, ◌+◌, ◌++◌, [], Contains, Some, length, IfOk, IsErrOf, is_ok, if◌then◌else◌};
 ghost use Rattle.edge_traits.specs.Faults.{counted_once_more, CountsFailed};
 
@@ -16,8 +16,8 @@ pub struct MemSink {
 impl MemSink {
     ghost use Rattle.edge_traits.specs.MemSink.{written_of, failing_writes, write_calls, write_faults, IsFaultlessSink};
 
-    /// A sink with nothing written to it. The writes whose numbers, counted from 0, are in `failing`
-    /// return `Failed`. Each other write takes its whole piece, or returns `OutOfMemory`.
+    /// A sink with nothing written to it. The writes whose numbers, counted from 0, are in
+    /// `failing` return `Failed`. Each other write takes its whole piece, or returns `OutOfMemory`.
     pub fn new(alloc: Global, failing: Vec<u32>) -> Self
         ensures written { written_of result ≡ [] }
         ensures failing { failing_writes result ≡ failing.items }
@@ -54,7 +54,8 @@ impl Sink for MemSink {
             ≡ (if is_ok result then written_of self.old ++ bytes.now else written_of self.old) }
 
         // Exactly the planned calls fail.
-        ensures fails { IsErrOf result EdgeFault.Failed ↔ Contains (failing_writes self.old) (write_calls self.old) }
+        ensures fails { IsErrOf result EdgeFault.Failed ↔
+            Contains (failing_writes self.old) (write_calls self.old) }
         ensures faults { CountsFailed result (write_faults self.old) (write_faults self.new) }
         ensures calls { write_calls self.new ≡ counted_once_more (write_calls self.old) }
         ensures failing { failing_writes self.new ≡ failing_writes self.old }

@@ -1,4 +1,4 @@
-//! A source in memory, which fails at the reads that it was told.
+//! A source in memory, which fails at planned reads.
 ghost use Rattle.std.specs.Prelude.{◌≡◌, ◌≤◌, ◌<◌, ◌↔◌, ◌++◌, [], All, Contains, Some, length, take, drop, min, IfOk, OnOk, OnErr, IsErrOf};
 ghost use Rattle.edge_traits.specs.Faults.{counted_once_more, CountsFailed};
 ghost use Rattle.edge_traits.specs.Reads.{max_read_len};
@@ -24,9 +24,9 @@ pub struct MemSource {
 impl MemSource {
     ghost use Rattle.edge_traits.specs.MemSource.{left_of, sizes_of, failing_reads, read_calls, read_faults, IsFaultlessSource};
 
-    /// A source of these bytes. The k-th successful read takes at most as many bytes as the k-th size
-    /// says; once the sizes are used up, a read takes as many as fit. The reads whose numbers, counted
-    /// from 0, are in `failing` return `Failed`, and no other read is refused.
+    /// A source of these bytes. The k-th successful read takes at most as many bytes as the k-th
+    /// size says; once the sizes are used up, a read takes as many as fit. The reads whose numbers,
+    /// counted from 0, are in `failing` return `Failed`, and no other read is refused.
     pub fn new(_alloc: Global, bytes: Vec<u8>, sizes: Vec<u32>, failing: Vec<u32>) -> Self
         requires { All (λ size. 1 ≤ size) sizes.items }
 
@@ -70,7 +70,8 @@ impl Source for MemSource {
         ensures kept_size { OnErr result (sizes_of self.new ≡ sizes_of self.old) }
 
         // Exactly the planned calls fail, and nothing else is refused.
-        ensures fails { IsErrOf result EdgeFault.Failed ↔ Contains (failing_reads self.old) (read_calls self.old) }
+        ensures fails { IsErrOf result EdgeFault.Failed ↔
+            Contains (failing_reads self.old) (read_calls self.old) }
         ensures only_error { OnErr result (IsErrOf result EdgeFault.Failed) }
         ensures faults { CountsFailed result (read_faults self.old) (read_faults self.new) }
         ensures calls { read_calls self.new ≡ counted_once_more (read_calls self.old) }

@@ -16,7 +16,7 @@ pub(crate) fn read_retrying<R: Read>(reader: &mut R, into: &mut [u8]) -> io::Res
     for _ in 0..RETRIES {
         match reader.read(into) {
             Err(error) if error.kind() == ErrorKind::Interrupted => {}
-            answer => return answer,
+            result => return result,
         }
     }
     reader.read(into)
@@ -29,7 +29,7 @@ pub(crate) fn write_retrying<W: Write>(writer: &mut W, bytes: &[u8]) -> io::Resu
     for _ in 0..RETRIES {
         match writer.write(bytes) {
             Err(error) if error.kind() == ErrorKind::Interrupted => {}
-            answer => return answer,
+            result => return result,
         }
     }
     writer.write(bytes)

@@ -19,15 +19,15 @@ pub enum File {
     Container(u32, u32),
 }
 
-/// A finite map from `File` to bytes, in which a file that does not exist counts as empty. Files grow
-/// at the end and are cut there, and a flush makes a file durable. A shelf is observable if the bytes
-/// of its files are known to the contract.
+/// A finite map from `File` to bytes, in which a file that does not exist counts as empty. Files
+/// grow at the end and are cut there, and a flush makes a file durable. A shelf is observable if
+/// the bytes of its files are known to the contract.
 pub trait Shelf: Send {
     /// The bytes of each file, if the shelf is observable.
     ghost files: { Self → Option (File → List ℕ) };
 
-    /// Whether a file is loose: it may have been appended to or cut since its last flush. This has a
-    /// meaning only if the shelf is observable; no file of another shelf is loose.
+    /// Whether a file is loose: it may have been appended to or cut since its last flush. This has
+    /// a meaning only if the shelf is observable; no file of another shelf is loose.
     ghost loose: { Self → File → Bool };
 
     /// How often the shelf has failed. The count never falls.
@@ -50,8 +50,8 @@ pub trait Shelf: Send {
         ensures faultless_counts_none { faultless self.old → faults self.new ≡ faults self.old }
         ensures stays_faultless { faultless self.old → faultless self.new };
 
-    /// Reads a file from offset `at` on into the front of `into`: as many bytes as the file has there
-    /// and as fit. Returns how many: 0 if `at` is at or past the end. Changes nothing.
+    /// Reads a file from offset `at` on into the front of `into`: as many bytes as the file has
+    /// there and as fit. Returns how many: 0 if `at` is at or past the end. Changes nothing.
     fn read_at(&mut self, file: File, at: u64, into: &mut [u8]) -> Result<usize, EdgeFault>
         ensures bound { IfOk result (λ k. k ≤ length into.new) }
         ensures given { IfOk result (λ k.
@@ -73,7 +73,8 @@ pub trait Shelf: Send {
         ensures appended { OnOk result (Appended file bytes.now (files self.old) (files self.new)) }
         ensures prefix { IsErrOf result EdgeFault.Failed →
             AppendedPrefix file bytes.now (files self.old) (files self.new) }
-        ensures out_of_memory { IsErrOf result EdgeFault.OutOfMemory → SameFiles (files self.old) (files self.new) }
+        ensures out_of_memory { IsErrOf result EdgeFault.OutOfMemory →
+            SameFiles (files self.old) (files self.new) }
 
         ensures other_files { ChangesOnly file (files self.old) (files self.new) }
         ensures may_loosen { MayLoosen file (loose self.old) (loose self.new) }
@@ -89,8 +90,10 @@ pub trait Shelf: Send {
     /// `Failed` the file is cut or as it was. After `OutOfMemory` no file has changed.
     fn cut(&mut self, file: File, length: u64) -> Result<(), EdgeFault>
         ensures cut { OnOk result (CutTo file length (files self.old) (files self.new)) }
-        ensures cut_or_same { IsErrOf result EdgeFault.Failed → CutOrSame file length (files self.old) (files self.new) }
-        ensures out_of_memory { IsErrOf result EdgeFault.OutOfMemory → SameFiles (files self.old) (files self.new) }
+        ensures cut_or_same { IsErrOf result EdgeFault.Failed →
+            CutOrSame file length (files self.old) (files self.new) }
+        ensures out_of_memory { IsErrOf result EdgeFault.OutOfMemory →
+            SameFiles (files self.old) (files self.new) }
 
         ensures other_files { ChangesOnly file (files self.old) (files self.new) }
         ensures may_loosen { MayLoosen file (loose self.old) (loose self.new) }
@@ -102,8 +105,8 @@ pub trait Shelf: Send {
         ensures faultless_counts_none { faultless self.old → faults self.new ≡ faults self.old }
         ensures stays_faultless { faultless self.old → faultless self.new };
 
-    /// Makes what was done to a file durable, so that the file is no longer loose. Changes no bytes.
-    /// After a refusal the same files are loose.
+    /// Makes what was done to a file durable, so that the file is no longer loose. Changes no
+    /// bytes. After a refusal the same files are loose.
     fn flush(&mut self, file: File) -> Result<(), EdgeFault>
         ensures flushed { OnOk result (Flushed file (loose self.old) (loose self.new)) }
         ensures same_files { SameFiles (files self.old) (files self.new) }

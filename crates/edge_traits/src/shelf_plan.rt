@@ -7,8 +7,9 @@ use crate::EdgeFault;
 use crate::tally::Tally;
 use sd_base::OutOfMemory;
 
-/// A call of a `MemShelf` that fails: its number, counted from 0, and what it keeps. An append keeps
-/// that many bytes of the piece, or all of them if there are fewer. A cut is done if `kept` is not 0.
+/// A call of a `MemShelf` that fails: its number, counted from 0, and what it keeps. An append
+/// keeps that many bytes of the piece, or all of them if there are fewer. A cut is done if `kept`
+/// is not 0.
 #[derive(Clone, Copy, Debug, PartialEq, Eq)]
 pub struct ShelfFail {
     pub call: u32,
@@ -66,7 +67,7 @@ impl ShelfPlan {
         self.count_result(kept, Ok(()))
     }
 
-    /// Counts a call, and returns its result: out of memory, or else the failure that was planned.
+    /// Counts a call, and returns its result: out of memory, or otherwise the planned failure.
     pub(crate) fn count_result(
         &mut self,
         kept: Option<u32>,

@@ -23,7 +23,8 @@ pub trait Sink: Send {
     fn write(&mut self, bytes: &[u8]) -> Result<usize, EdgeFault>
         ensures bound { IfOk result (λ k. k ≤ length bytes.now) }
         ensures progress { IfOk result (λ k. 0 < length bytes.now → 1 ≤ k) }
-        ensures appended { IfOk result (λ k. Appends (written self.old) (written self.new) (take k bytes.now)) }
+        ensures appended { IfOk result (λ k.
+            Appends (written self.old) (written self.new) (take k bytes.now)) }
 
         ensures failed { IsErrOf result EdgeFault.Failed → Rose (faults self.old) (faults self.new) }
         ensures never_falls { faults self.old ≤ faults self.new }

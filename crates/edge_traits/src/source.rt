@@ -17,9 +17,9 @@ pub trait Source: Send {
     /// The device will not fail any more.
     ghost faultless: { Self → Type 0 };
 
-    /// Puts the next bytes into the front of `into` and returns how many. 0 for an `into` that is not
-    /// empty means that nothing is left. `Failed` comes only if the device's count of faults rose in
-    /// the call. A refused call takes no byte.
+    /// Puts the next bytes into the front of `into` and returns how many. 0 for an `into` that is
+    /// not empty means that nothing is left. `Failed` comes only if the device's count of faults
+    /// rose in the call. A refused call takes no byte.
     fn read(&mut self, into: &mut [u8]) -> Result<usize, EdgeFault>
         ensures bound { IfOk result (λ k. k ≤ length into.new) }
         ensures given { IfOk result (λ k. Consumes (left self.old) (left self.new) (take k into.new)) }

@@ -21,7 +21,7 @@ pub enum ReadFault {
 }
 
 impl From<EdgeFault> for ReadFault {
-    ghost from_gives = { λ fault answer. answer ≡ read_fault_of fault };
+    ghost from_gives = { λ fault result. result ≡ read_fault_of fault };
 
     fn from(fault: EdgeFault) -> Self {
         match fault {
@@ -32,7 +32,7 @@ impl From<EdgeFault> for ReadFault {
 }
 
 impl From<OutOfMemory> for ReadFault {
-    ghost from_gives = { λ _ answer. answer ≡ out_of_memory };
+    ghost from_gives = { λ _ result. result ≡ out_of_memory };
 
     fn from(_: OutOfMemory) -> Self {
         ReadFault::OutOfMemory
@@ -40,7 +40,7 @@ impl From<OutOfMemory> for ReadFault {
 }
 
 impl From<AllocError> for ReadFault {
-    ghost from_gives = { λ _ answer. answer ≡ out_of_memory };
+    ghost from_gives = { λ _ result. result ≡ out_of_memory };
 
     fn from(_: AllocError) -> Self {
         ReadFault::OutOfMemory
@@ -58,15 +58,17 @@ const _: () = prove!(MIN_STEP <= MAX_STEP);
 /// Reads a source to its end and returns all of its bytes, at most `limit` of them.
 ///
 /// `SourceFault` comes only if the source's count of faults rose. `InputTooLong` comes only if the
-/// source has more than `limit` bytes, and an Ok only if it has at most `limit`. The bytes that were
-/// taken before a refusal are gone: exactly `limit + 1` at `InputTooLong`, at most `limit` otherwise.
+/// source has more than `limit` bytes, and an Ok only if it has at most `limit`. The bytes that
+/// were taken before a refusal are gone: exactly `limit + 1` at `InputTooLong`, at most `limit`
+/// otherwise.
 pub fn read_all<R: Source>(alloc: Global, source: &mut R, limit: u32) -> Result<Vec<u8>, ReadFault>
     ensures bytes { IfOk result (λ read. IfSome (R.left source.old) (λ bytes. read.items ≡ bytes)) }
     ensures at_end { OnOk result (R.left source.new ≡ option_map (λ _. []) (R.left source.old)) }
     ensures within_limit { IfOk result (λ read. vec_len read ≤ limit) }
     ensures fits { OnOk result (IfSome (R.left source.old) (λ bytes. length bytes ≤ limit)) }
 
-    ensures source_fault { IsErrOf result ReadFault.SourceFault → Rose (R.faults source.old) (R.faults source.new) }
+    ensures source_fault { IsErrOf result ReadFault.SourceFault →
+        Rose (R.faults source.old) (R.faults source.new) }
     ensures too_long { IsErrOf result ReadFault.InputTooLong →
         IfSome (R.left source.old) (λ bytes. limit < length bytes) }
     ensures too_long_left { IsErrOf result ReadFault.InputTooLong →
@@ -98,8 +100,8 @@ pub fn read_all<R: Source>(alloc: Global, source: &mut R, limit: u32) -> Result<
     Err(ReadFault::InputTooLong)
 }
 
-/// Makes the buffer longer, with zeros, if its first `taken` bytes fill it; never longer than `most`.
-/// Memory is taken only for the bytes by which it grows.
+/// Makes the buffer longer, with zeros, if its first `taken` bytes fill it; never longer than
+/// `most`. Memory is taken only for the bytes by which it grows.
 fn make_room(buffer: &mut Vec<u8>, taken: usize, most: usize) -> Result<(), AllocError>
     requires taken { taken ≤ vec_len buffer.old }
     requires within { vec_len buffer.old ≤ most }

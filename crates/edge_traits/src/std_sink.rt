@@ -57,7 +57,8 @@ impl<T: Print + Send + Drop> Sink for StdSink<T> {
 /// Writes to the writer once and flushes it, and returns how many bytes the writer took.
 pub(crate) fn write_flushed<W: Write>(writer: &mut W, bytes: &[u8]) -> io::Result<usize>
     ensures bound { IfOk result (λ k. k ≤ length bytes.now) }
-    ensures bytes { IfOk result (λ k. Appends (W.contents writer.old) (W.contents writer.new) (take k bytes.now)) }
+    ensures bytes { IfOk result (λ k.
+        Appends (W.contents writer.old) (W.contents writer.new) (take k bytes.now)) }
 {
     let count = write_retrying(writer, bytes)?;
     writer.flush()?;

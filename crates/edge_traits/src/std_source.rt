@@ -37,7 +37,8 @@ impl<T: Input + Send + Drop> Source for StdSource<T> {
     fn read(&mut self, into: &mut [u8]) -> Result<usize, EdgeFault>
         ensures bound { IfOk result (λ k. k ≤ length into.new) }
         ensures only_error { OnErr result (IsErrOf result EdgeFault.Failed) }
-        ensures counts { OnErr result (CountsFault (std_source_faults self.old) (std_source_faults self.new)) }
+        ensures counts { OnErr result
+            (CountsFault (std_source_faults self.old) (std_source_faults self.new)) }
         ensures no_fault { OnOk result (std_source_faults self.new ≡ std_source_faults self.old) }
     {
         match read_retrying(&mut self.rt.reader(), into) {

@@ -3,7 +3,8 @@ ghost use Rattle.std.specs.Prelude.{◌≡◌, ◌≤◌, ◌<◌, ◌^◌, ◌+
 ghost use Rattle.edge_traits.specs.Faults.{counted_once_more};
 
 /// The number of calls so far, and how many of them failed. Calls are numbered from 0. A call whose
-/// number passes `u32` never fails, so the count of faults stays far below the last number of 64 bits.
+/// number passes `u32` never fails, so the count of faults stays far below the last number of 64
+/// bits.
 #[derive(Drop)]
 pub(crate) struct Tally {
     calls: u64,
