@@ -56,8 +56,8 @@ pub(crate) fn append(
     Ok(())
 }
 
-/// Cuts a file to its first `size` bytes, and it is then loose. An entry needs memory only if the
-/// file has none.
+/// Cuts a file to its first `size` bytes. The file is then loose. Memory is needed only if the file
+/// has no entry.
 pub(crate) fn cut(
     alloc: Global,
     entries: &mut Vec<Entry>,

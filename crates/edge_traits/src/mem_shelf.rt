@@ -40,21 +40,21 @@ impl MemShelf {
         }
     }
 
-    /// The bytes of a file. This is no call of `Shelf`, and it has no number.
+    /// The bytes of a file. This is no call of `Shelf`, so it is not counted.
     pub fn file(&self, file: File) -> &[u8]
         ensures { result.now ≡ files_of_shelf self.now file }
     {
         entries::bytes_of(&self.entries, file)
     }
 
-    /// Whether a file was appended to or cut since it was last flushed or put. It has no number.
+    /// Whether a file was appended to or cut since it was last flushed or put. Not counted.
     pub fn is_loose(&self, file: File) -> bool
         ensures { result ≡ loose_of_shelf self.now file }
     {
         entries::is_loose(&self.entries, file)
     }
 
-    /// Makes these the bytes of a file, which is then not loose. It has no number. It fails only if
+    /// Makes these the bytes of a file, which is then not loose. Not counted. It fails only if
     /// memory runs out, and then nothing has changed.
     pub fn put_file(&mut self, file: File, bytes: &[u8]) -> Result<(), OutOfMemory>
         ensures put { OnOk result (files_of_shelf self.new file ≡ bytes.now) }
