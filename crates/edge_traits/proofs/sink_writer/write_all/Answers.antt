@@ -1,6 +1,6 @@
 use Rattle.std.proofs.Common.{rules}
 use Rattle.edge_traits.proofs.Streams.{appends_more}
-use Rattle.edge_traits.proofs.writing.write_all.Goals as goal
+use Rattle.edge_traits.proofs.sink_writer.write_all.Goals as goal
 
 pub loop-done-preserved : goal.loop-done-preserved
 loop-done-preserved g c = record {

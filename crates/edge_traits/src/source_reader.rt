@@ -1,27 +1,27 @@
-//! The whole of a source.
+//! Reading a whole input.
 ghost use Rattle.std.specs.Prelude.{◌≡◌, ◌≤◌, ◌<◌, ◌+◌, [], Some, length, take, drop, vec_len, option_map, IfOk, IfSome, OnOk, OnErr, IsErrOf};
 ghost use Rattle.edge_traits.specs.Faults.{Rose};
-ghost use Rattle.edge_traits.specs.Source.{Takes, IsAtEnd, LosesAtMost};
+ghost use Rattle.edge_traits.specs.Source.{Consumes, IsAtEnd, LosesAtMost};
 ghost use Rattle.edge_traits.specs.ReadAll.{read_fault_of};
-ghost use Rattle.edge_traits.specs.declared.reading.ReadFault.TheVariants.{OutOfMemory as out_of_memory};
+ghost use Rattle.edge_traits.specs.declared.source_reader.ReadFault.TheVariants.{OutOfMemory as out_of_memory};
 
 use crate::{EdgeFault, Source};
 use sd_base::OutOfMemory;
 use std::alloc::{AllocError, Global};
 
-/// Why the whole of a source was not read. What was taken before the refusal is gone. Defined by this project.
+/// Why the whole of a source was not read. The bytes that were taken before the refusal are gone.
 #[derive(Clone, Copy, Debug, PartialEq, Eq)]
 pub enum ReadFault {
     /// The source failed. Its count of faults rose in the call.
     SourceFault,
     /// The source has more bytes than the limit.
     InputTooLong,
-    /// There was no memory for the bytes.
+    /// Memory ran out.
     OutOfMemory,
 }
 
 impl From<EdgeFault> for ReadFault {
-    ghost from_gives = { λ fault answer. answer ≡ read_fault_of fault };
+    ghost from_gives = { λ fault result. result ≡ read_fault_of fault };
 
     fn from(fault: EdgeFault) -> Self {
         match fault {
@@ -32,7 +32,7 @@ impl From<EdgeFault> for ReadFault {
 }
 
 impl From<OutOfMemory> for ReadFault {
-    ghost from_gives = { λ _ answer. answer ≡ out_of_memory };
+    ghost from_gives = { λ _ result. result ≡ out_of_memory };
 
     fn from(_: OutOfMemory) -> Self {
         ReadFault::OutOfMemory
@@ -40,37 +40,44 @@ impl From<OutOfMemory> for ReadFault {
 }
 
 impl From<AllocError> for ReadFault {
-    ghost from_gives = { λ _ answer. answer ≡ out_of_memory };
+    ghost from_gives = { λ _ result. result ≡ out_of_memory };
 
     fn from(_: AllocError) -> Self {
         ReadFault::OutOfMemory
     }
 }
 
-/// Bytes by which the buffer grows at least. A pipe gives no more at once.
-const LEAST_STEP: usize = 1 << 16;
+/// Bytes by which the buffer grows at least. A pipe holds no more at once.
+const MIN_STEP: usize = 1 << 16;
 
-/// Bytes by which the buffer grows at most, so that little of it stands empty at the end.
-const GREATEST_STEP: usize = 1 << 24;
+/// Bytes by which the buffer grows at most, so that little of it is empty at the end.
+const MAX_STEP: usize = 1 << 24;
 
-const _: () = prove!(LEAST_STEP <= GREATEST_STEP);
+const _: () = prove!(MIN_STEP <= MAX_STEP);
 
-/// Reads a source to its end and gives all of its bytes, at most `limit` of them. `SourceFault` comes only where the
-/// source's count of faults rose, `InputTooLong` exactly where the source has more than `limit` bytes, once
-/// `limit + 1` of them were taken. What was taken before a refusal is gone. Each turn takes at least one byte, so the
-/// call returns. Defined by this project.
+/// Reads a source to its end and returns all of its bytes, at most `limit` of them.
+///
+/// `SourceFault` comes only if the source's count of faults rose. `InputTooLong` comes only if the
+/// source has more than `limit` bytes, and an Ok only if it has at most `limit`. The bytes that
+/// were taken before a refusal are gone: exactly `limit + 1` at `InputTooLong`, at most `limit`
+/// otherwise.
 pub fn read_all<R: Source>(alloc: Global, source: &mut R, limit: u32) -> Result<Vec<u8>, ReadFault>
-    ensures bytes { IfOk result (λ read. IfSome (R.left source.old) (λ told. read.items ≡ told)) }
-    ensures end { OnOk result (R.left source.new ≡ option_map (λ _. []) (R.left source.old)) }
+    ensures bytes { IfOk result (λ read. IfSome (R.left source.old) (λ bytes. read.items ≡ bytes)) }
+    ensures at_end { OnOk result (R.left source.new ≡ option_map (λ _. []) (R.left source.old)) }
     ensures within_limit { IfOk result (λ read. vec_len read ≤ limit) }
-    ensures fits { OnOk result (IfSome (R.left source.old) (λ told. length told ≤ limit)) }
+    ensures fits { OnOk result (IfSome (R.left source.old) (λ bytes. length bytes ≤ limit)) }
 
-    ensures source_fault { IsErrOf result ReadFault.SourceFault → Rose (R.faults source.old) (R.faults source.new) }
+    ensures source_fault { IsErrOf result ReadFault.SourceFault →
+        Rose (R.faults source.old) (R.faults source.new) }
     ensures too_long { IsErrOf result ReadFault.InputTooLong →
-        IfSome (R.left source.old) (λ told. limit < length told) }
+        IfSome (R.left source.old) (λ bytes. limit < length bytes) }
     ensures too_long_left { IsErrOf result ReadFault.InputTooLong →
-        R.left source.new ≡ option_map (λ told. drop (limit + 1) told) (R.left source.old) }
+        R.left source.new ≡ option_map (λ bytes. drop (limit + 1) bytes) (R.left source.old) }
     ensures refused { OnErr result (LosesAtMost (limit + 1) (R.left source.old) (R.left source.new)) }
+    ensures source_fault_left { IsErrOf result ReadFault.SourceFault →
+        LosesAtMost limit (R.left source.old) (R.left source.new) }
+    ensures out_of_memory_left { IsErrOf result ReadFault.OutOfMemory →
+        LosesAtMost limit (R.left source.old) (R.left source.new) }
 
     ensures never_falls { R.faults source.old ≤ R.faults source.new }
 
@@ -83,7 +90,7 @@ pub fn read_all<R: Source>(alloc: Global, source: &mut R, limit: u32) -> Result<
     let mut taken = 0;
     while taken < most {
         make_room(&mut buffer, taken, most)?;
-        let count = read_behind(source, &mut buffer, taken)?;
+        let count = read_after(source, &mut buffer, taken)?;
         if count == 0 {
             buffer.truncate(taken);
             return Ok(buffer);
@@ -93,8 +100,8 @@ pub fn read_all<R: Source>(alloc: Global, source: &mut R, limit: u32) -> Result<
     Err(ReadFault::InputTooLong)
 }
 
-/// Makes the buffer longer, with zeros, where its first `taken` bytes fill it; never longer than `most`. No room is asked
-/// for but for the bytes that it is made longer by.
+/// Makes the buffer longer, with zeros, if its first `taken` bytes fill it; never longer than
+/// `most`. Memory is taken only for the bytes by which it grows.
 fn make_room(buffer: &mut Vec<u8>, taken: usize, most: usize) -> Result<(), AllocError>
     requires taken { taken ≤ vec_len buffer.old }
     requires within { vec_len buffer.old ≤ most }
@@ -108,14 +115,14 @@ fn make_room(buffer: &mut Vec<u8>, taken: usize, most: usize) -> Result<(), Allo
     if taken < len {
         return Ok(());
     }
-    let step = len.clamp(LEAST_STEP, GREATEST_STEP);
+    let step = len.clamp(MIN_STEP, MAX_STEP);
     let longer = len.saturating_add(step).min(most);
     buffer.reserve_exact(longer - len)?;
     buffer.resize(longer, 0)
 }
 
-/// One read into what stands behind the first `taken` bytes of the buffer.
-fn read_behind<R: Source>(
+/// One read into the buffer, after its first `taken` bytes.
+fn read_after<R: Source>(
     source: &mut R,
     buffer: &mut Vec<u8>,
     taken: usize,
@@ -126,8 +133,8 @@ fn read_behind<R: Source>(
 
     ensures bound { IfOk result (λ k. taken + k ≤ vec_len buffer.new) }
     ensures given { IfOk result (λ k.
-        Takes (R.left source.old) (R.left source.new) (take k (drop taken buffer.new.items))) }
-    ensures end { result ≡ Ok 0 → IsAtEnd (R.left source.old) }
+        Consumes (R.left source.old) (R.left source.new) (take k (drop taken buffer.new.items))) }
+    ensures at_end { result ≡ Ok 0 → IsAtEnd (R.left source.old) }
 
     ensures failed { IsErrOf result EdgeFault.Failed → Rose (R.faults source.old) (R.faults source.new) }
     ensures never_falls { R.faults source.old ≤ R.faults source.new }

@@ -1,12 +1,13 @@
-//! A whole piece to a sink.
+//! Writing a whole piece.
 ghost use Rattle.std.specs.Prelude.{◌≡◌, ◌≤◌, length, OnOk, OnErr, IsErrOf};
 ghost use Rattle.edge_traits.specs.Faults.{Rose};
 ghost use Rattle.edge_traits.specs.Sink.{Appends, AppendsPrefix};
 
 use crate::{EdgeFault, Sink};
 
-/// Writes a whole piece, in as many calls as the sink needs; an empty piece needs none. After a refusal a prefix of the
-/// piece was written. `Failed` comes only where the sink's count of faults rose. Defined by this project.
+/// Writes a whole piece, in as many calls as the sink needs; an empty piece needs none. After a
+/// refusal a prefix of the piece was written. `Failed` comes only if the sink's count of faults
+/// rose.
 pub fn write_all<K: Sink>(sink: &mut K, bytes: &[u8]) -> Result<(), EdgeFault>
     ensures written { OnOk result (Appends (K.written sink.old) (K.written sink.new) bytes.now) }
     ensures prefix { OnErr result (AppendsPrefix (K.written sink.old) (K.written sink.new) bytes.now) }

@@ -1,10 +1,10 @@
-//! Which calls of an object in memory fail.
+//! Which calls of a source or a sink in memory fail.
 ghost use Rattle.std.specs.Prelude.{◌≡◌, ◌<◌, ◌^◌, ◌↔◌, ◌+◌, All, Contains, IsTrue, if◌then◌else◌};
 ghost use Rattle.edge_traits.specs.Faults.{counted_once_more};
 
 use crate::tally::Tally;
 
-/// The calls of an object in memory that fail, by their numbers, and the count of its calls.
+/// The calls that fail, by their numbers, and the count of the calls so far.
 #[derive(Drop)]
 pub(crate) struct FaultPlan {
     failing: Vec<u32>,
@@ -24,17 +24,18 @@ impl FaultPlan {
         }
     }
 
-    /// Counts the next call, and says whether it fails.
-    pub(crate) fn next_fails(&mut self) -> bool
+    /// Counts the next call, and returns whether it fails.
+    pub(crate) fn count_call(&mut self) -> bool
         ensures fails { IsTrue result ↔ Contains self.old.failing.items self.old.tally.calls }
-        ensures faults { self.new.tally.faults ≡ (if result then self.old.tally.faults + 1 else self.old.tally.faults) }
+        ensures faults { self.new.tally.faults
+            ≡ (if result then self.old.tally.faults + 1 else self.old.tally.faults) }
         ensures calls { self.new.tally.calls ≡ counted_once_more self.old.tally.calls }
         ensures failing { self.new.failing.items ≡ self.old.failing.items }
         ensures stays_past { All (λ number. number < self.old.tally.calls) self.old.failing.items →
             All (λ number. number < self.new.tally.calls) self.new.failing.items }
     {
-        let fails = is_among(&self.failing, self.tally.next());
-        self.tally.count(fails);
+        let fails = is_among(&self.failing, self.tally.next_number());
+        self.tally.count_call(fails);
         fails
     }
 }

@@ -1,6 +1,6 @@
 use Rattle.std.proofs.Common.{◌≡◌, ◌-◌, ◌≤◌, length, take}
 use Rattle.edge_traits.specs.Sink.{Appends}
-use Rattle.edge_traits.proofs.writing.write_all.Given as goal
+use Rattle.edge_traits.proofs.sink_writer.write_all.Given as goal
 
 abbrev pub invariant-loop-done : goal.invariant-loop-done
 invariant-loop-done g l = record {
