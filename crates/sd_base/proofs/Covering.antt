@@ -1,34 +1,39 @@
--- The chunks of an input, joined, are the input, and have the sizes that the parameters ask for.
+-- The chunks of an input join to the input, and have the sizes that the parameters ask for.
 use Rattle.std.proofs.Common.{◌≡◌, inl, inr, ℕ, zero, suc, ◌+◌, ◌-◌, ◌<◌, ◌≤◌, min, List, [], ◌∷◌, ◌++◌, length, drop, slice_range, slice_index_or, refl, sym, ap, subst, ◌∙◌, length-take, length-drop, arith}
 use Rattle.std.specs.List.{All, AllByRecursion, concat}
 use Rattle.std.proofs.lemmas.Bool.{cases_lt}
 use Rattle.std.proofs.lemmas.List.{drop_all}
 use Rattle.std.proofs.lemmas.List.Folds.{drop_split}
 use Rattle.std.proofs.lemmas.List.Elements.{All-from_recursion}
-use Rattle.sd_base.specs.Cutting.{next_cut, cuts_within, parts, chunks_of}
+use Rattle.sd_base.specs.Cutting.{next_cut, cuts_within, chunks_between, chunks_of}
 use Rattle.sd_base.specs.declared.raw_params.RawParams.{RawParams}
 use Rattle.sd_base.proofs.Cutting.{cuts_within_more, cuts_within_all, next_cut-le, lt-next_cut, add-le-next_cut}
 
--- the length of a part
-pub length-slice_range : (input : List ℕ) (a b : ℕ) → b ≤ length input → length (slice_range input a b) ≡ b - a
+-- the length of a range
+pub length-slice_range :
+    (input : List ℕ) (a b : ℕ) → b ≤ length input → length (slice_range input a b) ≡ b - a
 length-slice_range input a b inside = omega (arith, length-take (b - a) (drop a input), length-drop a input)
 
--- all of these but the last have so many bytes
+-- all chunks except the last have at least so many bytes
 abbrev AllButLastReach : ℕ → List (List ℕ) → Type 0
 AllButLastReach least chunks = (i : ℕ) → i + 1 < length chunks → least ≤ length (slice_index_or chunks i [])
 
-reach_cons : (least : ℕ) (chunk : List ℕ) (chunks : List (List ℕ)) → (1 ≤ length chunks → least ≤ length chunk) → AllButLastReach least chunks → AllButLastReach least (chunk ∷ chunks)
+reach_cons :
+    (least : ℕ) (chunk : List ℕ) (chunks : List (List ℕ)) → (1 ≤ length chunks → least ≤ length chunk) →
+    AllButLastReach least chunks → AllButLastReach least (chunk ∷ chunks)
 reach_cons least chunk chunks first others zero more = first (omega arith)
 reach_cons least chunk chunks first others (suc i) more = others i (omega arith)
 
 module _ (params : RawParams) (input : List ℕ) (some : 1 ≤ params.min) (ordered : params.min ≤ params.max) where
-  -- at most n parts from s on
+  -- at most n chunks, from s on
   left : ℕ → ℕ → List (List ℕ)
-  left n s = parts input s (cuts_within n params input s)
+  left n s = chunks_between input s (cuts_within n params input s)
 
-  left_more : (n s : ℕ) → s < length input → left (suc n) s ≡ slice_range input s (next_cut params input s) ∷ left n (next_cut params input s)
+  left_more :
+      (n s : ℕ) → s < length input →
+      left (suc n) s ≡ slice_range input s (next_cut params input s) ∷ left n (next_cut params input s)
   unfolding left
-  left_more n s inside = ap (parts input s) (cuts_within_more params input s n inside)
+  left_more n s inside = ap (chunks_between input s) (cuts_within_more params input s n inside)
 
   left_none : (s : ℕ) → left 0 s ≡ []
   unfolding left cuts_within
@@ -36,7 +41,7 @@ module _ (params : RawParams) (input : List ℕ) (some : 1 ≤ params.min) (orde
 
   left_all : (n s : ℕ) → length input ≤ s → left n s ≡ []
   unfolding left
-  left_all n s past = ap (parts input s) (cuts_within_all params input s n past)
+  left_all n s past = ap (chunks_between input s) (cuts_within_all params input s n past)
 
   concat-left : (n s : ℕ) → length input ≤ s + n → concat (left n s) ≡ drop s input
   concat-left zero s enough = ap concat (left_all 0 s (omega arith)) ∙ sym (drop_all s input (omega arith))
@@ -88,7 +93,7 @@ module _ (params : RawParams) (input : List ℕ) (some : 1 ≤ params.min) (orde
         | inr past ↦ subst P (sym (left_all (suc n) s past)) (λ i more. absurd (omega arith))
       ]
 
-  -- the three facts for all chunks
+  -- the three facts about all chunks of an input
   pub concat-chunks_of : concat (chunks_of params input) ≡ input
   unfolding left
   concat-chunks_of = concat-left (length input) 0 (omega arith)
@@ -97,6 +102,8 @@ module _ (params : RawParams) (input : List ℕ) (some : 1 ≤ params.min) (orde
   unfolding left
   chunk_sizes = All-from_recursion IsFilledAndBounded (chunks_of params input) (left_sizes (length input) 0)
 
-  pub min-le-chunk : (i : ℕ) → i + 1 < length (chunks_of params input) → params.min ≤ length (slice_index_or (chunks_of params input) i [])
+  pub min-le-chunk :
+      (i : ℕ) → i + 1 < length (chunks_of params input) →
+      params.min ≤ length (slice_index_or (chunks_of params input) i [])
   unfolding left
   min-le-chunk = left_reach (length input) 0

@@ -1,4 +1,4 @@
--- The ranges of parameters and the refusals of numbers are one and the same.
+-- Numbers are valid parameters if and only if none is refused.
 use Rattle.std.proofs.Common.{◌≡◌, ◌^◌, ◌<◌, None, arith}
 use Rattle.std.proofs.lemmas.Bool.Decides.{nat_tests}
 use Rattle.sd_base.specs.Parameters.{IsValid, bad_parameter}
@@ -6,11 +6,11 @@ use Rattle.sd_base.specs.declared.raw_params.RawParams.{RawParams}
 use Rattle.sd_base.specs.declared.params.Params.{Params}
 use Rattle.sd_base.specs.Params.{numbers_of}
 
--- of valid numbers none is refused
+-- if numbers are valid, none is refused
 pub bad_parameter-none : (raw : RawParams) → IsValid raw → bad_parameter raw ≡ None
 bad_parameter-none raw valid = grind (arith, nat_tests)
 
--- numbers of which none is refused are valid
+-- if none of the numbers is refused, they are valid
 pub IsValid-from_none : (raw : RawParams) → raw.polynomial < 2 ^ 64 → bad_parameter raw ≡ None → IsValid raw
 IsValid-from_none raw fits none = record {
   polynomial = grind (arith, nat_tests);
@@ -20,12 +20,12 @@ IsValid-from_none raw fits none = record {
   max = grind (arith, nat_tests);
 }
 
--- the numbers that parameters hold are valid
+-- the numbers of a `Params` are valid
 pub IsValid-numbers_of : (params : Params) → IsValid (numbers_of params)
 IsValid-numbers_of params = record {
   polynomial = params.valid_polynomial;
-  bits = (params.some_bits, params.few_bits);
+  bits = (params.bits_not_zero, params.bits_within_limit);
   target = params.target_fits;
   min = params.min_holds_a_window;
-  max = (params.ordered, params.max_in_range);
+  max = (params.ordered, params.max_within_limit);
 }

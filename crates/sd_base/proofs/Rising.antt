@@ -1,4 +1,4 @@
--- The cuts of an input rise, and none is past its end.
+-- The cuts of an input rise, and none is after its end.
 use Rattle.std.proofs.Common.{ℕ, zero, suc, ◌+◌, ◌<◌, ◌≤◌, min, List, length, inl, inr, arith}
 use Rattle.std.proofs.lemmas.Bool.{cases_lt}
 use Rattle.sd_base.specs.Cutting.{next_cut, cuts_within, cuts_of, RiseWithin}
@@ -6,7 +6,7 @@ use Rattle.sd_base.proofs.Cutting.{lt-next_cut, next_cut-le, cuts_within_more, c
 use Rattle.sd_base.specs.declared.raw_params.RawParams.{RawParams}
 
 module _ (params : RawParams) (input : List ℕ) (some : 1 ≤ params.min) (ordered : params.min ≤ params.max) where
-  -- those from a position on
+  -- the cuts from a position on rise
   pub RiseWithin-cuts_within : (n s : ℕ) → RiseWithin s (length input) (cuts_within n params input s)
   unfolding cuts_within
   RiseWithin-cuts_within zero s = tt
@@ -19,6 +19,6 @@ module _ (params : RawParams) (input : List ℕ) (some : 1 ≤ params.min) (orde
         | inr past ↦ rw (cuts_within_all params input s (suc n) past) tt
       ]
 
-  -- all of them
+  -- all cuts rise
   pub RiseWithin-cuts_of : RiseWithin 0 (length input) (cuts_of params input)
   RiseWithin-cuts_of = RiseWithin-cuts_within (length input) 0

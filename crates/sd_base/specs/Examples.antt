@@ -1,15 +1,17 @@
--- Worked examples of the definitions, each computed by the checker. What they answer is known apart from them: under
--- t^63 + 1 a power of t is that of its exponent modulo 63, the fingerprint under the default polynomial was worked out by
--- long division, and the name of `abc` is an example of FIPS 180-4.
+-- Worked examples of the definitions, each computed by the checker. Each result is known from
+-- another source: modulo t^63 + 1 the exponent of a power of t counts modulo 63, the fingerprint
+-- under the default polynomial was worked out by long division, and the name of `abc` is an example
+-- of FIPS 180-4.
 use Rattle.std.specs.Prelude.{◌≡◌, ℕ, ◌^◌, List, [], ◌∷◌, ◌++◌, replicate, take, codes, true, false, Some, None, Ok}
 use Rattle.std.specs.Int.Count.{count_leading_zeros}
 use Rattle.std.specs.Fmt.{digits}
+use Rattle.std.specs.List.{range_with_len}
 use Rattle.std.proofs.Common.{refl, lit<, lit≤}
 use Rattle.hex.specs.Hex.{encode_with}
 use Rattle.sha2.specs.Sha256.{sha256, digest_bytes, hash_after, compress, rounds, schedule, first_words}
 use Rattle.sd_base.specs.Parameters.{IsValid}
 use Rattle.sd_base.specs.Polynomial.{remainder, fingerprint}
-use Rattle.sd_base.specs.Cutting.{is_match, count_up, next_cut, cuts_within, cuts_of, chunks_of}
+use Rattle.sd_base.specs.Cutting.{is_match, next_cut, cuts_within, cuts_of, chunks_of}
 use Rattle.sd_base.specs.Names.{bad_name}
 use Rattle.sd_base.specs.Packing.{packing}
 use Rattle.sd_base.specs.Words.{default_params, default_plan, bad_word, command_of}
@@ -18,7 +20,7 @@ use Rattle.sd_base.specs.Books.{sessions_of, places_in, live_session, recipe_fla
 use Rattle.sd_base.specs.Texts.{plan_text}
 use Rattle.sd_base.specs.OnePass.{one_pass}
 use Rattle.sd_base.specs.declared.raw_params.RawParams.{RawParams}
-use Rattle.sd_base.specs.declared.limits.TheConstants.{MAX_INPUT, MAX_CHUNKS, MAX_PLACES, MAX_SESSIONS, MAX_CONTAINER, CONTAINER_HEADER, MAX_CHUNK_LEN, DEFAULT_POLYNOMIAL, DEFAULT_BITS, DEFAULT_TARGET, DEFAULT_MIN, DEFAULT_MAX, DEFAULT_WORKERS, DEFAULT_SEGMENT}
+use Rattle.sd_base.specs.declared.limits.TheConstants.{WINDOW, MIN_POLYNOMIAL, MAX_BITS, MIN_CHUNK_LEN, MAX_NAME, MAX_INPUT, MAX_CHUNKS, MAX_PLACES, MAX_SESSIONS, MAX_CONTAINER, CONTAINER_HEADER, MAX_CHUNK_LEN, DEFAULT_POLYNOMIAL, DEFAULT_BITS, DEFAULT_TARGET, DEFAULT_MIN, DEFAULT_MAX, DEFAULT_WORKERS, DEFAULT_SEGMENT}
 use Rattle.sd_base.specs.declared.name.BadName.TheVariants.{Length, Letter}
 use Rattle.sd_base.specs.declared.params.BadParams.TheVariants.{Bits}
 use Rattle.sd_base.specs.declared.words.BadKind.TheVariants.{Missing, Command as NoCommand, Key as NoKey, Twice, Value}
@@ -30,7 +32,7 @@ use Rattle.sd_base.specs.declared.words.Quiet.TheVariants.{Plan}
 use Rattle.sd_base.specs.declared.words.Command.TheVariants.{Quiet}
 use Rattle.sd_base.specs.declared.outcome.Outcome.TheVariants.{Done, BadParams}
 
--- what is used where no parameter is given is valid
+-- the parameters that are used if none is given are valid
 pub IsValid-default_params : IsValid default_params
 IsValid-default_params = record {
   polynomial = (lit≤ tt, lit< tt, refl);
@@ -40,11 +42,42 @@ IsValid-default_params = record {
   max = (lit≤ tt, lit≤ tt);
 }
 
--- the constants are these defaults
-pub default_plan-of_the_constants : default_plan ≡ Quiet (Plan (record { polynomial = DEFAULT_POLYNOMIAL; bits = DEFAULT_BITS; target = DEFAULT_TARGET; min = DEFAULT_MIN; max = DEFAULT_MAX }) DEFAULT_WORKERS DEFAULT_SEGMENT)
+-- `plan` with no keys, by its numbers
+pub default_plan-is :
+    default_plan
+    ≡ Quiet (Plan (record { polynomial = 0x3DA3358B4DC173; bits = 13; target = 120; min = 2048; max = 65536 }) 4 65536)
+default_plan-is = refl
+
+-- the constants of the code are these numbers
+pub default_plan-of_the_constants :
+    default_plan
+    ≡ Quiet (Plan
+    (record {
+      polynomial = DEFAULT_POLYNOMIAL;
+      bits = DEFAULT_BITS;
+      target = DEFAULT_TARGET;
+      min = DEFAULT_MIN;
+      max = DEFAULT_MAX;
+    })
+    DEFAULT_WORKERS DEFAULT_SEGMENT)
 default_plan-of_the_constants = refl
 
--- the limits
+-- the limits: a definition or a clause that cites one of them means this number
+pub WINDOW-is : WINDOW ≡ 48
+WINDOW-is = refl
+
+pub MIN_POLYNOMIAL-is : MIN_POLYNOMIAL ≡ 2 ^ 16
+MIN_POLYNOMIAL-is = refl
+
+pub MAX_BITS-is : MAX_BITS ≡ 16
+MAX_BITS-is = refl
+
+pub MIN_CHUNK_LEN-is : MIN_CHUNK_LEN ≡ 48
+MIN_CHUNK_LEN-is = refl
+
+pub MAX_NAME-is : MAX_NAME ≡ 64
+MAX_NAME-is = refl
+
 pub MAX_INPUT-is : MAX_INPUT ≡ 2 ^ 28
 MAX_INPUT-is = refl
 
@@ -66,7 +99,7 @@ CONTAINER_HEADER-is = refl
 pub MAX_CHUNK_LEN-is : MAX_CHUNK_LEN ≡ 1048576
 MAX_CHUNK_LEN-is = refl
 
--- t^63 + 1
+-- the polynomial t^63 + 1
 abbrev pub sparse : ℕ
 sparse = 0x8000000000000001
 
@@ -82,12 +115,12 @@ pub fingerprint-of_all_ones : fingerprint sparse (replicate 48 255) ≡ 63
 unfolding count_leading_zeros
 fingerprint-of_all_ones = refl
 
--- one byte later the window of the byte 1 has moved on
+-- the window one byte further on: a zero has come in after the byte 1
 pub fingerprint-of_byte_one_and_a_zero : fingerprint sparse (replicate 46 0 ++ 1 ∷ 0 ∷ []) ≡ 256
 unfolding count_leading_zeros
 fingerprint-of_byte_one_and_a_zero = refl
 
--- the least degree: modulo t^16 + 1 the power 376 is 8
+-- the least degree, 16: modulo t^16 + 1 the exponent 376 is 8
 pub fingerprint-of_degree_16 : fingerprint 0x10001 (1 ∷ replicate 47 0) ≡ 256
 unfolding count_leading_zeros
 fingerprint-of_degree_16 = refl
@@ -96,31 +129,34 @@ pub remainder-of_384_ones : remainder sparse (replicate 384 1) ≡ 63
 unfolding count_leading_zeros
 remainder-of_384_ones = refl
 
--- the bytes 0 to 47, under the default polynomial
-pub fingerprint-of_counting_bytes : fingerprint default_params.polynomial (count_up 0 48) ≡ 4967560356722810
+-- the bytes 0 to 47 under the default polynomial
+pub fingerprint-of_counting_bytes :
+    fingerprint default_params.polynomial (range_with_len 0 48) ≡ 4967560356722810
 unfolding count_leading_zeros
 fingerprint-of_counting_bytes = refl
 
--- small sizes, so that little input shows a cut
+-- chunks of 64 to 256 bytes, so that a short input has cuts
 abbrev pub small_params : ℕ → RawParams
 small_params target = record { polynomial = sparse; bits = 13; target = target; min = 64; max = 256 }
 
--- every window is a match, so each chunk but the last has the minimum
+-- every window is a match, so each chunk except the last has the minimum
 pub cuts_of-zeros : cuts_of (small_params 0) (replicate 200 0) ≡ 64 ∷ 128 ∷ 192 ∷ 200 ∷ []
 unfolding count_leading_zeros next_cut cuts_within
 cuts_of-zeros = refl
 
--- the one candidate is right behind the byte 1, the minimum away from the start
-pub cuts_of-candidate_at_the_minimum : cuts_of (small_params 1) (replicate 63 0 ++ 1 ∷ replicate 63 0) ≡ 64 ∷ 127 ∷ []
+-- the one candidate is right after the byte 1, and the minimum away from the start
+pub cuts_of-candidate_at_the_minimum :
+    cuts_of (small_params 1) (replicate 63 0 ++ 1 ∷ replicate 63 0) ≡ 64 ∷ 127 ∷ []
 unfolding count_leading_zeros next_cut cuts_within
 cuts_of-candidate_at_the_minimum = refl
 
--- one byte nearer to the start it is passed over
-pub cuts_of-candidate_below_the_minimum : cuts_of (small_params 1) (replicate 62 0 ++ 1 ∷ replicate 2 0) ≡ 65 ∷ []
+-- a candidate one byte nearer to the start is passed over
+pub cuts_of-candidate_below_the_minimum :
+    cuts_of (small_params 1) (replicate 62 0 ++ 1 ∷ replicate 2 0) ≡ 65 ∷ []
 unfolding count_leading_zeros next_cut cuts_within
 cuts_of-candidate_below_the_minimum = refl
 
--- chunks of 48 to 50 bytes: the maximum is a cut where no candidate comes before it
+-- chunks of 48 to 50 bytes: the maximum is a cut if no candidate comes before it
 abbrev short_params : RawParams
 short_params = record { polynomial = sparse; bits = 13; target = 1; min = 48; max = 50 }
 
@@ -128,25 +164,28 @@ pub cuts_of-no_candidate : cuts_of short_params (replicate 60 0) ≡ 50 ∷ 60 �
 unfolding count_leading_zeros next_cut cuts_within
 cuts_of-no_candidate = refl
 
-pub cuts_of-candidate_at_the_maximum : cuts_of short_params (replicate 49 0 ++ 1 ∷ replicate 10 0) ≡ 50 ∷ 60 ∷ []
+pub cuts_of-candidate_at_the_maximum :
+    cuts_of short_params (replicate 49 0 ++ 1 ∷ replicate 10 0) ≡ 50 ∷ 60 ∷ []
 unfolding count_leading_zeros next_cut cuts_within
 cuts_of-candidate_at_the_maximum = refl
 
-pub cuts_of-candidate_past_the_maximum : cuts_of short_params (replicate 50 0 ++ 1 ∷ replicate 9 0) ≡ 50 ∷ 60 ∷ []
+pub cuts_of-candidate_past_the_maximum :
+    cuts_of short_params (replicate 50 0 ++ 1 ∷ replicate 9 0) ≡ 50 ∷ 60 ∷ []
 unfolding count_leading_zeros next_cut cuts_within
 cuts_of-candidate_past_the_maximum = refl
 
--- the byte 4 at the start of a window is t^378, which is 1 as well: the first byte of a window counts
-pub cuts_of-window_of_48_bytes : cuts_of (small_params 1) (replicate 16 0 ++ 4 ∷ replicate 60 0) ≡ 64 ∷ 77 ∷ []
+-- the byte 4 at the start of a window is t^378, which is also 1: the first byte of a window counts
+pub cuts_of-window_of_48_bytes :
+    cuts_of (small_params 1) (replicate 16 0 ++ 4 ∷ replicate 60 0) ≡ 64 ∷ 77 ∷ []
 unfolding count_leading_zeros next_cut cuts_within
 cuts_of-window_of_48_bytes = refl
 
--- and the byte before it does not
+-- the byte before a window does not count
 pub cuts_of-byte_before_the_window : cuts_of (small_params 1) (replicate 15 0 ++ 4 ∷ replicate 49 0) ≡ 65 ∷ []
 unfolding count_leading_zeros next_cut cuts_within
 cuts_of-byte_before_the_window = refl
 
--- t^13 + 1 and t^12 + 1 as fingerprints: the low 13 bits are compared, and no more
+-- the fingerprints t^13 + 1 and t^12 + 1: the low 13 bits are compared, and no more
 pub is_match-above_the_low_bits : is_match (small_params 1) (replicate 46 0 ++ 32 ∷ 1 ∷ []) ≡ true
 unfolding count_leading_zeros
 is_match-above_the_low_bits = refl
@@ -155,13 +194,18 @@ pub is_match-in_the_low_bits : is_match (small_params 1) (replicate 46 0 ++ 16 �
 unfolding count_leading_zeros
 is_match-in_the_low_bits = refl
 
--- one short chunk: its offset, its length and its name
-pub plan_text-abc : plan_text (chunks_of default_params (codes "abc")) ≡ codes "0 3 ba7816bf8f01cfea414140de5dae2223b00361a396177a9cb410ff61f20015ad" ++ 10 ∷ []
+-- one short chunk: its position, its length and its name
+pub plan_text-abc :
+    plan_text (chunks_of default_params (codes "abc"))
+    ≡ codes "0 3 ba7816bf8f01cfea414140de5dae2223b00361a396177a9cb410ff61f20015ad" ++ 10 ∷ []
 unfolding count_leading_zeros next_cut cuts_within digits encode_with sha256 digest_bytes hash_after compress rounds schedule first_words
 plan_text-abc = refl
 
--- the offset of the second chunk is behind the first
-pub plan_text-two_chunks : plan_text (codes "abc" ∷ codes "abc" ∷ []) ≡ codes "0 3 ba7816bf8f01cfea414140de5dae2223b00361a396177a9cb410ff61f20015ad" ++ 10 ∷ codes "3 3 ba7816bf8f01cfea414140de5dae2223b00361a396177a9cb410ff61f20015ad" ++ 10 ∷ []
+-- the second chunk begins where the first ends
+pub plan_text-two_chunks :
+    plan_text (codes "abc" ∷ codes "abc" ∷ [])
+    ≡ codes "0 3 ba7816bf8f01cfea414140de5dae2223b00361a396177a9cb410ff61f20015ad"
+    ++ 10 ∷ codes "3 3 ba7816bf8f01cfea414140de5dae2223b00361a396177a9cb410ff61f20015ad" ++ 10 ∷ []
 unfolding digits encode_with sha256 digest_bytes hash_after compress rounds schedule first_words
 plan_text-two_chunks = refl
 
@@ -204,31 +248,45 @@ command_of-key_twice = refl
 pub command_of-leading_zero : command_of (codes "plan" ∷ codes "bits=09" ∷ []) ≡ bad_word Value 1
 command_of-leading_zero = refl
 
-pub command_of-keys : command_of (codes "plan" ∷ codes "max=256" ∷ codes "polynomial=8000000000000001" ∷ codes "min=64" ∷ codes "target=1" ∷ []) ≡ Ok (Quiet (Plan (small_params 1) 4 65536))
+pub command_of-keys :
+    command_of
+    (codes "plan" ∷ codes "max=256" ∷ codes "polynomial=8000000000000001" ∷ codes "min=64"
+    ∷ codes "target=1" ∷ [])
+    ≡ Ok (Quiet (Plan (small_params 1) 4 65536))
 command_of-keys = refl
 
 -- the refusal names the first number that is out of its range
-pub one_pass-seventeen_bits : one_pass (codes "plan" ∷ codes "max=1" ∷ codes "bits=17" ∷ []) [] ≡ record { outcome = BadParams Bits; text = [] }
+pub one_pass-seventeen_bits :
+    one_pass (codes "plan" ∷ codes "max=1" ∷ codes "bits=17" ∷ []) []
+    ≡ record { outcome = BadParams Bits; text = [] }
 one_pass-seventeen_bits = refl
 
--- two chunks in one container, behind its header
+-- two chunks in one container, after its header
 pub packing-two_chunks : packing (replicate 64 0 ∷ replicate 8 0 ∷ []) ≡ (codes "SSCP" ++ replicate 76 0) ∷ []
 packing-two_chunks = refl
 
--- a drop of session 0, digest and all
-pub spelling_of-drop_0 : spelling_of (Drop 0) ≡ 0x44 ∷ 0 ∷ 0 ∷ 0 ∷ 4 ∷ 0 ∷ 0 ∷ 0 ∷ 0 ∷ 0xcc ∷ 0xfb ∷ 0x74 ∷ 0xc7 ∷ 0x78 ∷ 0x2f ∷ 0xdf ∷ 0xbe ∷ 0xba ∷ 0xf9 ∷ 0xfc ∷ 0x24 ∷ 0x48 ∷ 0xa6 ∷ 0xa2 ∷ 0xa3 ∷ 0xab ∷ 0xec ∷ 0xce ∷ 0x62 ∷ 0x80 ∷ 0x87 ∷ 0x9b ∷ 0xa3 ∷ 0xf8 ∷ 0xd3 ∷ 5 ∷ 0xaa ∷ 0x7e ∷ 0x5f ∷ 0xa4 ∷ 0xf6 ∷ []
+-- a drop of session 0, with its digest
+pub spelling_of-drop_0 :
+    spelling_of (Drop 0)
+    ≡ 0x44 ∷ 0 ∷ 0 ∷ 0 ∷ 4 ∷ 0 ∷ 0 ∷ 0 ∷ 0
+    ∷ 0xcc ∷ 0xfb ∷ 0x74 ∷ 0xc7 ∷ 0x78 ∷ 0x2f ∷ 0xdf ∷ 0xbe ∷ 0xba ∷ 0xf9 ∷ 0xfc ∷ 0x24 ∷ 0x48 ∷ 0xa6 ∷ 0xa2
+    ∷ 0xa3 ∷ 0xab ∷ 0xec ∷ 0xce ∷ 0x62 ∷ 0x80 ∷ 0x87 ∷ 0x9b ∷ 0xa3 ∷ 0xf8 ∷ 0xd3 ∷ 5 ∷ 0xaa ∷ 0x7e ∷ 0x5f
+    ∷ 0xa4 ∷ 0xf6 ∷ []
 unfolding spelling_of sha256 digest_bytes hash_after compress rounds schedule first_words
 spelling_of-drop_0 = refl
 
--- two chunks of 64 and 8 bytes, and sessions of them
+-- two chunks of 64 and 8 bytes, and sessions that have them
 abbrev two_chunks : List NewChunk
 two_chunks = record { length = 64; name = replicate 32 1 } ∷ record { length = 8; name = replicate 32 2 } ∷ []
 
 abbrev session_of : List NewChunk → ℕ → List ℕ → IngestRecord
 session_of fresh size recipe = record { name = codes "a"; length = size; fresh = fresh; recipe = recipe }
 
--- an ingest of 200 bytes as `a`, of two new chunks in four places: up to the length of the first chunk, and its length
-pub spelling_of-ingest_a : take 18 (spelling_of (Ingest (session_of two_chunks 200 (0 ∷ 0 ∷ 0 ∷ 1 ∷ [])))) ≡ 0x49 ∷ 0 ∷ 0 ∷ 0 ∷ 0x66 ∷ 1 ∷ 0x61 ∷ 0 ∷ 0 ∷ 0 ∷ 0xc8 ∷ 0 ∷ 0 ∷ 0 ∷ 2 ∷ 0 ∷ 0 ∷ 0 ∷ []
+-- an ingest of 200 bytes as `a`, of two new chunks in four places: up to and with the length of the
+-- first chunk
+pub spelling_of-ingest_a :
+    take 19 (spelling_of (Ingest (session_of two_chunks 200 (0 ∷ 0 ∷ 0 ∷ 1 ∷ []))))
+    ≡ 0x49 ∷ 0 ∷ 0 ∷ 0 ∷ 0x66 ∷ 1 ∷ 0x61 ∷ 0 ∷ 0 ∷ 0 ∷ 0xc8 ∷ 0 ∷ 0 ∷ 0 ∷ 2 ∷ 0 ∷ 0 ∷ 0 ∷ 0x40 ∷ []
 unfolding spelling_of ingest_body
 spelling_of-ingest_a = refl
 
@@ -239,19 +297,22 @@ recipe_flaw-of_200_zeros = refl
 pub recipe_flaw-beyond : recipe_flaw two_chunks (session_of [] 64 (0 ∷ 2 ∷ [])) ≡ Some 1
 recipe_flaw-beyond = refl
 
--- lengths whose sum is one too few
+-- lengths that sum to one less than the length of the input
 pub recipe_flaw-sum : recipe_flaw two_chunks (session_of [] 73 (0 ∷ 1 ∷ [])) ≡ Some 2
 recipe_flaw-sum = refl
 
--- a chunk of a later session is not there yet
+-- an entry that names a chunk of a later session
 pub recipe_damage-later_chunk :
-    recipe_damage [] 0 (sessions_of (Ingest (session_of [] 64 (0 ∷ [])) ∷ Ingest (session_of two_chunks 64 (0 ∷ [])) ∷ []))
+    recipe_damage [] 0
+    (sessions_of (Ingest (session_of [] 64 (0 ∷ [])) ∷ Ingest (session_of two_chunks 64 (0 ∷ [])) ∷ []))
     ≡ Some (Recipe 0 0)
 recipe_damage-later_chunk = refl
 
--- a dropped session is found no more, and its chunks and places stay
-pub live_session-dropped : live_session (sessions_of (Ingest (session_of two_chunks 72 (0 ∷ 1 ∷ [])) ∷ Drop 0 ∷ [])) (codes "a") ≡ None
+-- a dropped session is no longer found, and its places still count
+pub live_session-dropped :
+    live_session (sessions_of (Ingest (session_of two_chunks 72 (0 ∷ 1 ∷ [])) ∷ Drop 0 ∷ [])) (codes "a") ≡ None
 live_session-dropped = refl
 
-pub places_in-dropped : places_in (sessions_of (Ingest (session_of two_chunks 72 (0 ∷ 1 ∷ [])) ∷ Drop 0 ∷ [])) ≡ 2
+pub places_in-dropped :
+    places_in (sessions_of (Ingest (session_of two_chunks 72 (0 ∷ 1 ∷ [])) ∷ Drop 0 ∷ [])) ≡ 2
 places_in-dropped = refl

@@ -1,4 +1,4 @@
--- Laws of the definitions: what they say, once more in the words of the subject.
+-- Laws of the definitions: what follows from them, in the words of the subject.
 use Rattle.std.specs.Prelude.{◌≡◌, ◌≢◌, ◌↔◌, ℕ, ◌+◌, ◌^◌, ◌<◌, ◌≤◌, List, [], ◌∷◌, length, take, drop, slice_index_or, None}
 use Rattle.std.specs.List.{All, concat}
 use Rattle.sd_base.specs.Names.{IsName, bad_name}
@@ -6,24 +6,27 @@ use Rattle.sd_base.specs.Parameters.{IsValid, bad_parameter}
 use Rattle.sd_base.specs.Cutting.{IsNextCut, next_cut, chunks_of}
 use Rattle.sd_base.specs.declared.raw_params.RawParams.{RawParams}
 
--- from each position one position is the next cut, and it is `next_cut`
+-- from each position exactly one position is the next cut, and it is `next_cut`
 abbrev pub OnePositionIsTheNextCut : Type 0
 OnePositionIsTheNextCut =
-    (params : RawParams) (input : List ℕ) (s cut : ℕ) → IsNextCut params input s cut ↔ (cut ≡ next_cut params input s)
+    (params : RawParams) (input : List ℕ) (s cut : ℕ) →
+    IsNextCut params input s cut ↔ (cut ≡ next_cut params input s)
 
 -- an empty input has no chunks
-abbrev pub NothingHasNoChunks : Type 0
-NothingHasNoChunks = (params : RawParams) → chunks_of params [] ≡ []
+abbrev pub AnEmptyInputHasNoChunks : Type 0
+AnEmptyInputHasNoChunks = (params : RawParams) → chunks_of params [] ≡ []
 
 -- every other input has a first chunk, and the rest is cut as if it stood alone
 abbrev pub TheTailIsCutAlone : Type 0
 TheTailIsCutAlone =
     (params : RawParams) (input : List ℕ) → IsValid params → input ≢ [] →
-    let cut = next_cut params input 0 in chunks_of params input ≡ take cut input ∷ chunks_of params (drop cut input)
+    let cut = next_cut params input 0 in
+    chunks_of params input ≡ take cut input ∷ chunks_of params (drop cut input)
 
 -- the chunks, joined in order, are the input
 abbrev pub ChunksJoinToTheInput : Type 0
-ChunksJoinToTheInput = (params : RawParams) (input : List ℕ) → IsValid params → concat (chunks_of params input) ≡ input
+ChunksJoinToTheInput =
+    (params : RawParams) (input : List ℕ) → IsValid params → concat (chunks_of params input) ≡ input
 
 -- no chunk is empty or longer than the maximum
 abbrev pub ChunksAreFilledAndBounded : Type 0
@@ -31,16 +34,18 @@ ChunksAreFilledAndBounded =
     (params : RawParams) (input : List ℕ) → IsValid params →
     All (λ chunk. (1 ≤ length chunk) × (length chunk ≤ params.max)) (chunks_of params input)
 
--- no chunk but the last is shorter than the minimum
+-- no chunk except the last is shorter than the minimum
 abbrev pub ChunksReachTheMinimum : Type 0
 ChunksReachTheMinimum =
     (params : RawParams) (input : List ℕ) → IsValid params →
-    (i : ℕ) → i + 1 < length (chunks_of params input) → params.min ≤ length (slice_index_or (chunks_of params input) i [])
+    (i : ℕ) → i + 1 < length (chunks_of params input) →
+    params.min ≤ length (slice_index_or (chunks_of params input) i [])
 
--- numbers, the polynomial one of 64 bits, are valid exactly where none is out of its range
+-- numbers with a polynomial of at most 64 bits are valid if and only if none is out of its range
 abbrev pub RangesAreTheRefusals : Type 0
-RangesAreTheRefusals = (raw : RawParams) → raw.polynomial < 2 ^ 64 → IsValid raw ↔ (bad_parameter raw ≡ None)
+RangesAreTheRefusals =
+    (raw : RawParams) → raw.polynomial < 2 ^ 64 → IsValid raw ↔ (bad_parameter raw ≡ None)
 
--- bytes are a name of a session exactly where nothing is wrong with them
+-- bytes are a name of a session if and only if nothing is wrong with them
 abbrev pub NamesAreTheRefusals : Type 0
 NamesAreTheRefusals = (bytes : List ℕ) → IsName bytes ↔ (bad_name bytes ≡ None)

@@ -1,17 +1,35 @@
+-- The definitions that contracts cite, in reading order.
+
+-- the numbers that steer cutting, and their ranges
 pub mod Parameters
+-- the numbers of a `Params`
 pub mod Params
+-- the remainder of a bit string, and the fingerprint of a window
 pub mod Polynomial
+-- where an input is cut
 pub mod Cutting
-pub mod Keys
+-- how chunks are packed into containers
 pub mod Packing
+-- the names of sessions
 pub mod Names
+-- what a `Name` keeps in memory
 pub mod Padding
+-- the records of a book and the one spelling of each
 pub mod Records
+-- what the records of a book say, and the damage of a book
 pub mod Books
+-- words of the form KEY=VALUE
+pub mod Keys
+-- the words of the command line and the command that they name
 pub mod Words
+-- the texts that commands print
 pub mod Texts
+-- the outcome and the text of a run
 pub mod OnePass
+-- what follows from the definitions
 pub mod Laws
+-- worked examples
 pub mod Examples
+-- the library's definitions that these use
 pub use Rattle.sha2.specs.Sha256
 pub use Rattle.hex.specs.Hex

@@ -1,15 +1,17 @@
--- Remainders of bit strings modulo a polynomial over the two-element field, after Rabin's fingerprint (Fingerprinting by
--- Random Polynomials, 1981). A polynomial is a number with one bit a coefficient. That a window is 48 bytes is from LBFS
--- (SOSP 2001, section 3.1); that any such polynomial may be the modulus, irreducible or not, is this project's own.
+-- Remainders of bit strings modulo a polynomial over the two-element field, after Rabin's
+-- fingerprint (Fingerprinting by Random Polynomials, 1981). A polynomial is a number with one bit a
+-- coefficient. That a window is 48 bytes is from LBFS (SOSP 2001, section 3.1). That any such
+-- polynomial may be the modulus, irreducible or not, is this project's own.
 use Rattle.std.specs.Prelude.{ℕ, ◌+◌, ◌-◌, ◌*◌, ◌==◌, if◌then◌else◌, List, [], ◌∷◌, bit_xor}
 use Rattle.std.specs.Int.{w64, bit_at, leading_zeros}
 use Rattle.std.specs.List.{fold, flat_map}
 
--- the place of the highest set bit of a number of 64 bits that is not 0
+-- the degree of a polynomial of at most 64 bits that is not 0: the exponent of its highest set bit
 abbrev pub degree : ℕ → ℕ
 degree p = 63 - leading_zeros w64 p
 
--- a number with the bit of the polynomial's degree taken away by the polynomial, where it is set
+-- one step of a division: a number less the polynomial, if it has the bit of the polynomial's
+-- degree. Over the two-element field to subtract is to exclusive-or.
 abbrev pub reduced : ℕ → ℕ → ℕ
 reduced p r = if bit_at r (degree p) == 1 then bit_xor r p else r
 

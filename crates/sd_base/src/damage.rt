@@ -1,16 +1,20 @@
-/// What is wrong with a store: the first flaw that is found, by the least numbers that name it. Records, sessions,
-/// places, containers and chunks are counted from 0. Defined by this project.
+/// What is wrong with a store: the first flaw that is found, with the least numbers that name it.
+/// Records, sessions, places, containers and chunks are counted from 0.
+///
+/// So far only a book is checked: a replay returns `Record` or `Recipe`, and nothing returns the
+/// other variants yet. They are for the files that hold the settings and the chunks.
 #[derive(Clone, Copy, Debug, PartialEq, Eq)]
 pub enum Damage {
-    /// The settings are there but are not those of valid parameters, or there are more than 65,535 later generations.
+    /// The settings exist but are not those of valid parameters, or there are more than 65,535
+    /// later generations.
     Head,
-    /// A committed record is not whole, is not of the grammar, has a new chunk longer than the longest that the
-    /// parameters allow, ingests a name that is live, drops a session that is not live, or passes a limit on sessions,
-    /// places or chunks.
+    /// A committed record is not whole, is not of the grammar, has a new chunk longer than the
+    /// longest that the parameters allow, ingests a name that is live, drops a session that is not
+    /// live, or passes a limit on sessions, places or chunks.
     Record(u32),
-    /// The entry at the place is not below the number of chunks of the book up to and with this record. Where `place` is
-    /// the number of places, all entries are in range, and the lengths of the chunks that they name do not sum to the
-    /// length of the input.
+    /// The entry at the place is not below the number of chunks of the book up to and with this
+    /// record. If `place` is the number of places, all entries are in range, and the lengths of the
+    /// chunks that they name do not sum to the length of the input.
     Recipe {
         session: u32,
         place: u32,
@@ -32,14 +36,14 @@ pub enum Damage {
         kept: [u8; 32],
         found: [u8; 32],
     },
-    /// Two chunks have equal bytes: `second` is the least number that has an equal one below it, and `first` is the
-    /// least equal one.
+    /// Two chunks have equal bytes: `second` is the least number that has an equal one below it,
+    /// and `first` is the least equal one.
     Twin {
         first: u32,
         second: u32,
     },
-    /// The entry at the place is above the number of chunks that occurred before it. Where `place` is the number of
-    /// places, a new chunk of this record occurs nowhere in its recipe.
+    /// The entry at the place is above the number of chunks that occurred before it. If `place` is
+    /// the number of places, a new chunk of this record occurs nowhere in its recipe.
     Order {
         session: u32,
         place: u32,

@@ -1,14 +1,22 @@
-//! The base of the tool: the parameters of cutting, the limits, the names of sessions, the words of the command line, the
-//! outcomes of a run, the damage of a store and the records of its book, and in `specs/` the definitions of what is cut,
-//! read, printed and answered, one file a subject. It stands on no other crate of the project; its definitions of printed
-//! text and of records cite those of `sha2` and `hex`.
+//! The base of the tool: what its other crates share. It has the parameters of cutting, the limits,
+//! the names of sessions, the words of the command line, the outcomes of a run, the damage of a
+//! store and the records of its book. `specs/` has the definitions that contracts cite, one file a
+//! subject: what is cut, packed, recorded, read and printed, and how a run ends.
+//!
+//! All rules here are this project's own, except three, each named at its item. The window, the
+//! number of bits, the minimum and the maximum are those of LBFS (SOSP 2001, section 3.1). A
+//! fingerprint is Rabin's (Fingerprinting by Random Polynomials, 1981). The name of a chunk is its
+//! SHA-256 (FIPS 180-4).
+//!
+//! The crate uses no other crate of the project. Its definitions of printed text and of records use
+//! those of `sha2` and `hex`.
 #![tactic(auto)]
 
 mod damage;
 mod laws;
 mod limits;
-mod memory;
 mod name;
+mod out_of_memory;
 mod outcome;
 mod params;
 mod raw_params;
@@ -22,11 +30,11 @@ pub use laws::{
 };
 pub use limits::{
     CONTAINER_HEADER, DEFAULT_BITS, DEFAULT_MAX, DEFAULT_MIN, DEFAULT_POLYNOMIAL, DEFAULT_SEGMENT,
-    DEFAULT_TARGET, DEFAULT_WORKERS, MAX_CHUNK_LEN, MAX_CHUNKS, MAX_CONTAINER, MAX_INPUT, MAX_NAME,
-    MAX_PLACES, MAX_SESSIONS, MAX_BITS, MIN_CHUNK_LEN, MIN_POLYNOMIAL, WINDOW,
+    DEFAULT_TARGET, DEFAULT_WORKERS, MAX_BITS, MAX_CHUNK_LEN, MAX_CHUNKS, MAX_CONTAINER, MAX_INPUT,
+    MAX_NAME, MAX_PLACES, MAX_SESSIONS, MIN_CHUNK_LEN, MIN_POLYNOMIAL, WINDOW,
 };
-pub use memory::OutOfMemory;
 pub use name::{BadName, Name};
+pub use out_of_memory::OutOfMemory;
 pub use outcome::Outcome;
 pub use params::{BadParams, Params};
 pub use raw_params::RawParams;

@@ -1,32 +1,34 @@
-//! The limits and the defaults. The window, and the default number of bits, minimum and maximum are those of LBFS (SOSP
-//! 2001, section 3.1); the rest is defined by this project.
+//! The limits and the defaults. The window and the default number of bits, minimum and maximum are
+//! those of LBFS (SOSP 2001, section 3.1).
 
-/// Bytes of a window: the region whose fingerprint decides whether a position is a candidate.
+/// Bytes of a window: the bytes before a position, whose fingerprint decides whether it is a
+/// candidate.
 pub const WINDOW: u32 = 48;
 
-/// Bytes of the longest input, 2^28: a position in an input is a `u32` with room to spare.
+/// Bytes of the longest input, 2^28: a position plus the length of any chunk fits a `u32`.
 pub const MAX_INPUT: u32 = 268_435_456;
 
-/// The least polynomial that is allowed, of degree 16: a remainder then has at least the 16 bits that may be compared.
+/// The least polynomial that is allowed, of degree 16: a remainder then has at least the 16 bits
+/// that may be compared.
 pub const MIN_POLYNOMIAL: u64 = 0x1_0000;
 
 /// The greatest number of low bits of a fingerprint that may be compared.
 pub const MAX_BITS: u32 = 16;
 
-/// Bytes: the least `min` that is allowed. A chunk then holds the whole window that decides its end, which is why the
-/// rest of an input is cut as if it stood alone.
+/// Bytes: the least `min` that is allowed. A chunk then holds the whole window that decides its
+/// end, which is why the rest of an input is cut as if it stood alone.
 pub const MIN_CHUNK_LEN: u32 = 48;
 
 /// Bytes: the greatest `max` that is allowed.
 pub const MAX_CHUNK_LEN: u32 = 1_048_576;
 
-/// Bytes of the longest container, 2^22: four of the longest chunks fit but for the header.
+/// Bytes of the longest container, 2^22: three of the longest chunks and the header fit.
 pub const MAX_CONTAINER: u32 = 4_194_304;
 
 /// Bytes of a container's header: its mark and its number.
 pub const CONTAINER_HEADER: u32 = 8;
 
-/// The most chunks of a book, 2^22: a chunk's number is a `u32` with room to spare.
+/// The most chunks of a book, 2^22: the number of every chunk fits a `u32`.
 pub const MAX_CHUNKS: u32 = 4_194_304;
 
 /// The most places of a book, 2^24, live and dropped.
@@ -38,25 +40,25 @@ pub const MAX_SESSIONS: u32 = 4096;
 /// Bytes of the longest name of a session: its length is one byte of a record.
 pub const MAX_NAME: usize = 64;
 
-/// The polynomial of degree 53 that is used where none is given, one bit a coefficient.
+/// The polynomial that is used if none is given: of degree 53, one bit a coefficient.
 pub const DEFAULT_POLYNOMIAL: u64 = 0x3D_A335_8B4D_C173;
 
-/// The number of low bits that are compared where none is given.
+/// The number of low bits of a fingerprint that are compared if none is given.
 pub const DEFAULT_BITS: u32 = 13;
 
-/// The value of these low bits at a candidate, where none is given.
+/// The value of these low bits at a candidate, if none is given.
 pub const DEFAULT_TARGET: u32 = 120;
 
-/// Bytes of the shortest chunk where none is given; the last chunk of an input may be shorter.
+/// Bytes of the shortest chunk if none is given. The last chunk of an input may be shorter.
 pub const DEFAULT_MIN: u32 = 2048;
 
-/// Bytes of the longest chunk where none is given.
+/// Bytes of the longest chunk if none is given.
 pub const DEFAULT_MAX: u32 = 65_536;
 
-/// Workers where none are given.
+/// The number of workers if none is given.
 pub const DEFAULT_WORKERS: u32 = 4;
 
-/// Bytes of a segment where none are given.
+/// Bytes of a segment if none is given.
 pub const DEFAULT_SEGMENT: u32 = 65_536;
 
 const _: () = prove!(WINDOW <= MIN_CHUNK_LEN);

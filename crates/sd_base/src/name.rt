@@ -12,19 +12,20 @@ use crate::limits::MAX_NAME;
 use std::cmp::Ordering;
 use std::marker::Model;
 
-/// Why bytes are no name of a session. They are tried in this order. Defined by this project.
+/// Why bytes are no name of a session. The reasons are tried in this order.
 #[derive(Clone, Copy, Debug, PartialEq, Eq)]
 pub enum BadName {
     /// There is no byte, or there are more than 64.
     Length,
-    /// A byte is none of the ASCII letters, the digits, `.`, `_` and `-`, or the first is neither a letter nor a digit.
+    /// A byte is not an ASCII letter, a digit, `.`, `_` or `-`, or the first is neither a letter
+    /// nor a digit.
     Letter,
 }
 
-/// The name of a session: contracts see its bytes. It takes no memory. Defined by this project.
+/// The name of a session: contracts see its bytes. It is kept in place and allocates nothing.
 #[derive(Clone, Copy, Debug)]
 pub struct Name {
-    // The bytes of the name, and zeros behind them.
+    // The bytes of the name, and zeros after them.
     padded: [u8; MAX_NAME],
     len: usize,
 }
@@ -34,15 +35,15 @@ impl Model for Name {
 
     ghost Value = { List ℕ };
 
-    ghost use Rattle.sd_base.specs.Padding.{IsPadded, bytes_in, padded_of, padded_of-bytes_in};
+    ghost use Rattle.sd_base.specs.Padding.{IsPadded, name_bytes, padded_of, padded_of-name_bytes};
 
-    ghost view = { bytes_in };
+    ghost view = { name_bytes };
 
     ghost invariant = { IsPadded };
 
     ghost inverse = { padded_of };
 
-    ghost inverse_ok = { padded_of-bytes_in };
+    ghost inverse_ok = { padded_of-name_bytes };
 }
 
 impl PartialEq for Name {
@@ -59,7 +60,7 @@ impl Eq for Name {
     ghost laws = { Prim.search rules };
 }
 
-// By their bytes, from the first on.
+// In the order of their bytes.
 impl Ord for Name {
     ghost cmp = { slice_cmp nat_cmp };
 
@@ -85,7 +86,8 @@ impl PartialOrd for Name {
 }
 
 impl Name {
-    /// The name of these bytes. A refusal comes exactly where they are no name of a session, and says what is wrong.
+    /// The name of these bytes. It is refused if and only if they are no name of a session, and the
+    /// error says why.
     pub fn read(bytes: &[u8]) -> Result<Name, BadName>
         ensures refused { result_err result ≡ bad_name bytes.now }
         ensures made { IfOk result (λ name. name ≡ bytes.now) }
@@ -105,22 +107,22 @@ impl Name {
     }
 }
 
-// What is wrong with bytes that are no name.
+// Why bytes are no name, if they are none.
 fn refusal_of(bytes: &[u8]) -> Option<BadName>
     ensures { result ≡ bad_name bytes.now }
 {
     if bytes.is_empty() || bytes.len() > MAX_NAME {
         return Some(BadName::Length);
     }
-    if bytes[0].is_ascii_alphanumeric() && all_may_stand(bytes) {
+    if bytes[0].is_ascii_alphanumeric() && are_all_allowed(bytes) {
         None
     } else {
         Some(BadName::Letter)
     }
 }
 
-// Whether each byte may stand in a name.
-fn all_may_stand(bytes: &[u8]) -> bool
+// Whether each byte is allowed in a name.
+fn are_all_allowed(bytes: &[u8]) -> bool
     ensures { result ≡ list_all name_byte bytes.now }
 {
     bytes.iter().all(|byte| {
@@ -128,7 +130,7 @@ fn all_may_stand(bytes: &[u8]) -> bool
     })
 }
 
-// The name of bytes that are one.
+// The name of bytes that are a name.
 fn padded(bytes: &[u8]) -> Name
     requires { bad_name bytes.now ≡ None }
     ensures { result ≡ bytes.now }
@@ -146,7 +148,7 @@ mod tests {
     use std::test::Fail;
 
     #[test]
-    fn names_and_what_is_no_name(rt: HostRuntime) {
+    fn only_names_are_read(rt: HostRuntime) {
         let longest = [b'a'; 65];
         let cases: [(&[u8], Option<BadName>); 16] = [
             (b"", Some(Length)),
@@ -180,12 +182,12 @@ mod tests {
     #[test]
     fn names_are_in_the_order_of_their_bytes(rt: HostRuntime) -> Result<(), Fail> {
         let rising: [&[u8]; 6] = [b"0", b"A", b"Z", b"a", b"a.b", b"ab"];
-        for (place, bytes) in rising.iter().enumerate() {
+        for (index, bytes) in rising.iter().enumerate() {
             let name = Name::read(bytes).ok().ok_or("a name")?;
-            for (other_place, bytes) in rising.iter().enumerate() {
+            for (other_index, bytes) in rising.iter().enumerate() {
                 let other = Name::read(bytes).ok().ok_or("a name")?;
-                assert_eq!(rt; name.cmp(&other), place.cmp(&other_place));
-                assert_eq!(rt; name == other, place == other_place);
+                assert_eq!(rt; name.cmp(&other), index.cmp(&other_index));
+                assert_eq!(rt; name == other, index == other_index);
             }
         }
         Ok(())

@@ -1,53 +1,55 @@
 ghost use Rattle.std.specs.Prelude.{◌≡◌, ◌^◌, ◌%◌, ◌<◌, ◌≤◌, ℕ, IfOk, Option};
 ghost use Rattle.std.specs.Result.{result_err};
 ghost use Rattle.sd_base.specs.Parameters.{IsPolynomial, bad_parameter};
+ghost use Rattle.sd_base.specs.declared.limits.TheConstants.{MAX_BITS, MIN_CHUNK_LEN, MAX_CHUNK_LEN};
 ghost use Rattle.sd_base.specs.declared.raw_params.RawParams.{RawParams};
 
-use crate::limits::{MAX_CHUNK_LEN, MAX_BITS, MIN_CHUNK_LEN, MIN_POLYNOMIAL};
+use crate::limits::{MAX_BITS, MAX_CHUNK_LEN, MIN_CHUNK_LEN, MIN_POLYNOMIAL};
 
-/// Which number is the first that is out of its range. They are tried in this order. Defined by this project.
+/// The first number that is out of its range. The numbers are tried in this order.
 #[derive(Clone, Copy, Debug, PartialEq, Eq)]
 pub enum BadParams {
-    /// The polynomial: its highest set bit is below 16, or its lowest bit is 0.
+    /// The polynomial has a degree below 16, or its constant term is 0.
     Polynomial,
-    /// `bits` is 0, or above 16.
+    /// `bits` is 0 or above 16.
     Bits,
     /// `target` is not below 2 to the power `bits`.
     Target,
     /// `min` is below 48.
     Min,
-    /// `max` is below `min`, or above 1,048,576.
+    /// `max` is below `min` or above 1,048,576.
     Max,
 }
 
-/// The numbers that steer cutting, each in its range. Defined by this project, after LBFS (SOSP 2001, section 3.1).
+/// The numbers that steer cutting, each in its range. That low bits are compared, and that there is
+/// a minimum and a maximum, is from LBFS (SOSP 2001, section 3.1).
 #[derive(Clone, Copy, Debug, PartialEq, Eq)]
 pub struct Params {
-    /// The polynomial over the two-element field, one bit a coefficient: of degree 16 to 63, with the constant term 1.
-    /// It may be irreducible or not.
+    /// The polynomial over the two-element field, one bit a coefficient: of degree 16 to 63, with
+    /// the constant term 1. It may be irreducible or not.
     pub polynomial: u64,
     /// The number of low bits of a fingerprint that are compared, from 1 to 16.
     pub bits: u32,
     /// The value of these bits at a candidate, below 2 to the power `bits`.
     pub target: u32,
-    /// Bytes of the shortest chunk, at least 48; the last chunk of an input may be shorter.
+    /// Bytes of the shortest chunk, at least 48. The last chunk of an input may be shorter.
     pub min: u32,
     /// Bytes of the longest chunk, from `min` to 1,048,576.
     pub max: u32,
     pub ghost valid_polynomial: { IsPolynomial polynomial },
-    pub ghost some_bits: { 1 ≤ bits },
-    pub ghost few_bits: { bits ≤ 16 },
+    pub ghost bits_not_zero: { 1 ≤ bits },
+    pub ghost bits_within_limit: { bits ≤ MAX_BITS },
     pub ghost target_fits: { target < 2 ^ bits },
-    pub ghost min_holds_a_window: { 48 ≤ min },
+    pub ghost min_holds_a_window: { MIN_CHUNK_LEN ≤ min },
     pub ghost ordered: { min ≤ max },
-    pub ghost max_in_range: { max ≤ 1048576 },
+    pub ghost max_within_limit: { max ≤ MAX_CHUNK_LEN },
 }
 
 impl Params {
     ghost use Rattle.sd_base.specs.Params.{numbers_of};
 
-    /// The parameters of these numbers. A refusal names the first number that is out of its range, and comes exactly
-    /// where one is.
+    /// The parameters with these numbers. They are refused if and only if a number is out of its
+    /// range, and the error names the first that is.
     pub fn new(
         polynomial: u64,
         bits: u32,
@@ -94,7 +96,7 @@ mod tests {
     use crate::limits::DEFAULT_POLYNOMIAL;
 
     #[test]
-    fn first_number_out_of_its_range(rt: HostRuntime) {
+    fn the_first_number_out_of_its_range_is_named(rt: HostRuntime) {
         let p = DEFAULT_POLYNOMIAL;
         let cases: [(u64, u32, u32, u32, u32, Option<BadParams>); 20] = [
             (p, 13, 120, 2048, 65_536, None),

@@ -1,5 +1,5 @@
-/// Five numbers that may steer cutting, as they were given: valid or not. `Params` holds such numbers once they are
-/// known to be valid. Defined by this project.
+/// Five numbers that steer cutting, as they were given: valid or not. A `Params` has such numbers
+/// that are valid.
 #[derive(Clone, Copy, Debug, PartialEq, Eq)]
 pub struct RawParams {
     /// The polynomial over the two-element field, one bit a coefficient.
@@ -8,7 +8,7 @@ pub struct RawParams {
     pub bits: u32,
     /// The value of these bits at a candidate.
     pub target: u32,
-    /// Bytes of the shortest chunk.
+    /// Bytes of the shortest chunk. The last chunk of an input may be shorter.
     pub min: u32,
     /// Bytes of the longest chunk.
     pub max: u32,

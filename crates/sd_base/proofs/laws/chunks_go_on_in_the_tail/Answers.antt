@@ -5,9 +5,9 @@ use Rattle.sd_base.specs.Cutting.{cuts_within}
 use Rattle.sd_base.proofs.Tails.{chunks_of_cons}
 use Rattle.sd_base.proofs.laws.chunks_go_on_in_the_tail.Goals as goal
 
-pub returns-clause-nothing : goal.returns-clause-nothing
+pub returns-clause-empty : goal.returns-clause-empty
 unfolding cuts_within
-returns-clause-nothing c = λ params. refl
+returns-clause-empty c = λ params. refl
 
 pub returns-clause-tail : goal.returns-clause-tail
 returns-clause-tail c = λ params input valid filled.

@@ -1,7 +1,7 @@
 use std::alloc::{AllocError, AllocFailed};
 
-/// Want of memory: the answer of a call that can be refused for nothing else. What the caller has afterwards is said at
-/// the call.
+/// The error of a call that fails only if memory runs out. The call says what the caller has
+/// afterwards.
 #[derive(Clone, Copy, Debug, PartialEq, Eq)]
 pub struct OutOfMemory;
 
