@@ -1,8 +1,8 @@
 ghost use Rattle.std.specs.Prelude.{◌≡◌, ℕ, List, length};
 
-/// Names bytes by 32 bytes. The name is a function of the bytes alone, and the same for all values of
-/// the type, so all workers that have a namer give a chunk the same name. Different bytes may have
-/// the same name.
+/// Names bytes by 32 bytes. The name is a function of the bytes alone, and the same for all values
+/// of the type, so all workers that have a namer give a chunk the same name. Different bytes may
+/// have the same name.
 pub trait Namer: Send + Sync + Drop {
     /// The function that names bytes.
     ghost name_of: { List ℕ → List ℕ };

@@ -10,10 +10,10 @@ use candidate_map::PlainMap;
 use sd_base::{OutOfMemory, Params};
 use std::alloc::Global;
 
-/// The cuts from `start` on, each the next from the one before it, until all that is known is cut or
-/// the next cut is still open. The first `known` bytes of the input are known, and `at_end` says
+/// The cuts from `start` on, each the next from the one before it, until all that is known is cut
+/// or the next cut is still open. The first `known` bytes of the input are known, and `at_end` says
 /// that these are all. It fails only if memory runs out. The walk is the second stage of SS-CDC
-/// (SYSTOR 2019); stopping at an open cut is this project's own.
+/// (SYSTOR 2019). That it stops at an open cut is this project's own.
 pub fn cuts_from(
     alloc: Global,
     map: &PlainMap,

@@ -8,10 +8,11 @@ ghost use Rattle.cut_walk.specs.Walk.{IsCutOn, IsUndecided};
 use candidate_map::PlainMap;
 use sd_base::Params;
 
-/// The next cut from `start`. The first `known` bytes of the input are known, and `at_end` says that
-/// these are all. The cut is the least position of the map at which the chunk has at least the
-/// minimum and at most the maximum; if there is none, it is the maximum or the end of the input.
-/// None if that is still open. A position is a number of bytes. It takes no memory.
+/// The next cut from `start`. The first `known` bytes of the input are known, and `at_end` says
+/// that these are all. The cut is the least position of the map at which the chunk has at least the
+/// minimum and at most the maximum. If there is none, it is `start` and the maximum, or the end of
+/// the input if that comes first. It returns None if that is still open. Positions count bytes. It
+/// takes no memory.
 ///
 /// The map and the walk are the second stage of SS-CDC (SYSTOR 2019). The minimum and the maximum
 /// are those of LBFS (SOSP 2001, section 3.1).
@@ -50,8 +51,8 @@ pub fn next_cut(
     }
 }
 
-/// The first position of the map at which a chunk from `start` is long enough, if it is not past the
-/// furthest.
+/// The first position of the map at which a chunk from `start` is long enough, if it is not past
+/// `furthest`.
 fn first_long_enough(map: &PlainMap, params: &Params, start: u32, furthest: u32) -> Option<u32>
     ensures first { IfSome result (IsFirstFrom map.now (start + params.now.min)) }
     ensures within { IfSome result (λ p. p ≤ furthest) }

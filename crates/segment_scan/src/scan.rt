@@ -13,9 +13,9 @@ use sd_base::{Params, WINDOW};
 const WINDOW_SIZE: usize = WINDOW as usize;
 
 /// Adds to the map exactly the candidates of the text above position `from` and up to and including
-/// position `to`. A window that reaches back before `from` is read whole, so that no candidate at
-/// the edge of a range is lost. A position is a number of bytes. It takes no memory. The first stage
-/// of SS-CDC (SYSTOR 2019).
+/// position `to`. A window that reaches back before `from` is read whole, so no candidate at the
+/// edge of a range is lost. Positions count bytes. It takes no memory. The first stage of SS-CDC
+/// (SYSTOR 2019).
 pub fn scan_range(
     tables: &Tables,
     params: &Params,
@@ -30,7 +30,7 @@ pub fn scan_range(
     requires mapped { length map.old ≡ length text.now + 1 }
     ensures added { AddsCandidates (numbers_of params.now) text.now from to map.old map.new }
 
-    // A map that was empty has the candidates of the text up to `to`, and those of every longer text.
+    // A map that was empty has, up to `to`, the candidates of the text and of every longer one.
     ensures from_empty { (bits : ℕ) (rest : List ℕ) → map.old ≡ replicate bits false → from ≡ 0
         → HoldsCandidates (numbers_of params.now) (text.now ++ rest) map.new to }
 {
@@ -57,9 +57,9 @@ fn scan_text(tables: &Tables, params: &Params, text: &[u8], from: u32, to: u32, 
     scan_one(tables, params, text, to, map);
 }
 
-// Adds the candidates above position `low` and up to and including position `end`, an even number of
-// positions further. The two halves are scanned side by side, since a roll waits for the roll before
-// it and not for that of the other half.
+// Adds the candidates above position `low` and up to and including position `end`, which is an even
+// number of positions further. The two halves are scanned side by side, so that their rolls
+// overlap: a roll waits only for the roll before it in its own half.
 fn scan_side_by_side(
     tables: &Tables,
     params: &Params,

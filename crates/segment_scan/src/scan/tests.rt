@@ -7,8 +7,8 @@ use std::process::Abort;
 use std::test::Fail;
 
 /// Modulo this polynomial the power 63 is 1, so a byte of 1 with k zero bytes after it is the power
-/// 8 * k modulo 63. Take the windows of one byte of 1 and otherwise zeros: with the target 1, only the
-/// one that ends with that byte is a match.
+/// 8 * k modulo 63. Of the windows with one byte of 1 and otherwise zeros, only the one that ends
+/// with that byte has the target 1.
 fn small_chunks(target: u32) -> Result<Params, Fail> {
     Ok(Params::new(0x8000_0000_0000_0001, 13, target, 64, 256)?)
 }

@@ -6,7 +6,8 @@ use Rattle.sd_base.specs.declared.limits.TheConstants.{WINDOW}
 use Rattle.segment_scan.proofs.Halves.{AddsBoth}
 use Rattle.segment_scan.proofs.scan.scan_side_by_side.Given as goal
 
--- each fingerprint is that of the window before its position, and what lies up to it in its half is marked
+-- each fingerprint is that of the window before its position, and the candidates up to that
+-- position in its half are marked
 abbrev pub invariant-loop-p : goal.invariant-loop-p
 invariant-loop-p l = record {
   left : l.left ≡ fingerprint l.tables.polynomial (slice_range l.text (l.p - WINDOW) l.p);
