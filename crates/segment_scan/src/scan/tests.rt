@@ -1,4 +1,4 @@
-use crate::scan_range;
+use super::scan_range;
 use candidate_map::PlainMap;
 use rabin_window::Tables;
 use sd_base::Params;
@@ -6,19 +6,20 @@ use std::alloc::Global;
 use std::process::Abort;
 use std::test::Fail;
 
-/// Modulo this polynomial the power 63 is 1, so a byte of 1 with k zero bytes behind it is the power 8 * k modulo 63. With
-/// the target 1, of the windows that hold one byte of 1 and else zeros, the one that ends with that byte is the match.
+/// Modulo this polynomial the power 63 is 1, so a byte of 1 with k zero bytes after it is the power
+/// 8 * k modulo 63. Of the windows with one byte of 1 and otherwise zeros, only the one that ends
+/// with that byte has the target 1.
 fn small_chunks(target: u32) -> Result<Params, Fail> {
     Ok(Params::new(0x8000_0000_0000_0001, 13, target, 64, 256)?)
 }
 
 #[test]
-fn one_candidate(rt: HostRuntime) -> Result<(), Fail> {
+fn a_candidate_is_found_in_the_ranges_that_hold_its_position(rt: HostRuntime) -> Result<(), Fail> {
     let params = small_chunks(1)?;
     let tables = Tables::new(&params);
     for (index, from, to, want) in [
         (99, 0, 300, Some(100)),
-        // the first position with a window before it, and the end of the text
+        // the first position with a whole window before it, and the end of the text
         (47, 0, 300, Some(48)),
         (46, 0, 300, None),
         (299, 0, 300, Some(300)),
@@ -76,7 +77,7 @@ fn found_in_ranges(
 }
 
 #[test]
-fn ranges_of_any_length(rt: HostRuntime) -> Result<(), Fail> {
+fn ranges_of_any_length_find_the_same_candidates(rt: HostRuntime) -> Result<(), Fail> {
     let mut text = [0; 300];
     for index in [47, 95, 143, 191, 239, 299] {
         text[index] = 1;
@@ -93,7 +94,7 @@ fn ranges_of_any_length(rt: HostRuntime) -> Result<(), Fail> {
 }
 
 #[test]
-fn every_window_is_a_match(rt: HostRuntime) -> Result<(), Fail> {
+fn every_window_of_zeros_is_found_with_target_0(rt: HostRuntime) -> Result<(), Fail> {
     for step in [200, 1, 47, 48, 65] {
         let found = found_in_ranges(&rt, rt.alloc(), 0, &[0; 200], step)?;
         assert_eq!(rt; found.first().copied(), Some(48), "ranges of {step}");

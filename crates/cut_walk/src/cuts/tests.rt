@@ -16,45 +16,10 @@ fn map_of(alloc: Global, positions: &[u32]) -> Result<PlainMap, Fail> {
     Ok(map)
 }
 
-/// Chunks of 64 to 256 bytes.
-fn small_chunks() -> Result<Params, Fail> {
-    Ok(Params::new(0x8000_0000_0000_0001, 13, 1, 64, 256)?)
-}
-
 #[test]
-fn next_cuts(rt: HostRuntime) -> Result<(), Fail> {
-    let params = small_chunks()?;
-    for (p, start, known, at_end, want) in [
-        // the next candidate is behind what is known, is known, or there is none
-        (100, 0, 80, false, None),
-        (100, 0, 100, false, Some(100)),
-        (100, 100, 300, false, None),
-        (100, 100, 300, true, Some(300)),
-        // at the minimum and one below
-        (64, 0, 80, false, Some(64)),
-        (63, 0, 80, false, None),
-        (63, 0, 80, true, Some(80)),
-        // at the maximum and one above
-        (256, 0, 300, false, Some(256)),
-        (257, 0, 300, false, Some(256)),
-        (257, 0, 256, false, Some(256)),
-        (257, 0, 255, false, None),
-        (257, 0, 255, true, Some(255)),
-        // at the end of what is known, and behind it
-        (300, 100, 300, false, Some(300)),
-        (300, 100, 299, false, None),
-        (300, 100, 299, true, Some(299)),
-    ] {
-        let map = map_of(rt.alloc(), [p].as_slice())?;
-        assert!(rt; start < known && known < map.bits());
-        let found = next_cut(&map, &params, start, known, at_end);
-        assert_eq!(rt; found, want, "position {p}, from {start} to {known}");
-    }
-    Ok(())
-}
-
-#[test]
-fn all_chunks_of_one_length(rt: HostRuntime) -> Result<(), Fail> {
+fn if_minimum_and_maximum_are_equal_only_the_last_chunk_is_shorter(
+    rt: HostRuntime,
+) -> Result<(), Fail> {
     let params = Params::new(0x8000_0000_0000_0001, 13, 1, 64, 64)?;
     let map = map_of(rt.alloc(), [50, 64, 100].as_slice())?;
     assert!(rt; 64 < map.bits());
@@ -67,8 +32,8 @@ fn all_chunks_of_one_length(rt: HostRuntime) -> Result<(), Fail> {
 }
 
 #[test]
-fn cuts(rt: HostRuntime) -> Result<(), Fail> {
-    let params = small_chunks()?;
+fn the_cuts_go_to_the_end_or_as_far_as_they_are_decided(rt: HostRuntime) -> Result<(), Fail> {
+    let params = Params::new(0x8000_0000_0000_0001, 13, 1, 64, 256)?;
     let map = map_of(rt.alloc(), [100].as_slice())?;
     assert!(rt; 300 < map.bits());
     let all = cuts_from(rt.alloc(), &map, &params, 0, 300, true)?;
