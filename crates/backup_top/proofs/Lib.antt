@@ -1,4 +1,4 @@
-mod Passes
+mod Runs
 mod KeysFlaws
 mod KeysNumbers
 mod KeysSplit

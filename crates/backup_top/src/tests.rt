@@ -165,6 +165,8 @@ impl Sink for Slow {
 
     ghost faults = { λ sink. sink.faults };
 
+    ghost faultless = { λ _. ⊥ };
+
     fn write(&mut self, bytes: &[u8]) -> Result<usize, EdgeFault> {
         if self.bytes.len() == self.room {
             self.faults = self.faults.saturating_add(1);
