@@ -7,7 +7,7 @@ ghost use Rattle.sd_base.specs.declared.outcome.Outcome.TheVariants.{Done};
 ghost use Rattle.backup_top.specs.Run.{CountsFaults, EndsAs, HasFailed, IsInputOf, IsRun, ReadsInput, Writes};
 
 use crate::cuts::cuts_of_text;
-use crate::lines::lines_of;
+use crate::plan_text::text_of_plan;
 use edge_traits::{EdgeFault, ReadFault, Sink, Source, read_all, write_all};
 use sd_base::{MAX_INPUT, Outcome, Params, RawParams};
 use std::alloc::Global;
@@ -71,7 +71,7 @@ fn read_plan_text<R: Source>(
 {
     let input = read_all(alloc, source, MAX_INPUT)?;
     let cuts = cuts_of_text(alloc, params, &input)?;
-    Ok(lines_of(alloc, &input, &cuts)?)
+    Ok(text_of_plan(alloc, &input, &cuts)?)
 }
 
 // Writes the whole text of a command that has done its work.

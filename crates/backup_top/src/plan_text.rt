@@ -6,15 +6,15 @@ use chunk_names::{Namer, Sha256Namer, hex_of};
 use sd_base::OutOfMemory;
 use std::alloc::Global;
 
-/// The text of `plan`: a line for each chunk of a text, in order. The refusal is want of memory alone.
-pub fn lines_of(alloc: Global, text: &[u8], cuts: &[u32]) -> Result<String, OutOfMemory>
-    requires { RiseWithin 0 (length text.now) cuts.now }
-    ensures { IfOk result (λ lines. string_bytes lines ≡ plan_text (parts text.now 0 cuts.now)) }
+/// The text of `plan`: a line for each chunk of an input, in order. It fails only if memory runs out.
+pub fn text_of_plan(alloc: Global, input: &[u8], cuts: &[u32]) -> Result<String, OutOfMemory>
+    requires { RiseWithin 0 (length input.now) cuts.now }
+    ensures { IfOk result (λ lines. string_bytes lines ≡ plan_text (parts input.now 0 cuts.now)) }
 {
     let mut lines = String::new(alloc);
     let mut start = 0u32;
     for cut in cuts {
-        let chunk = &text[start as usize..*cut as usize];
+        let chunk = &input[start as usize..*cut as usize];
         push_line(alloc, &mut lines, start, chunk)?;
         start = *cut;
     }

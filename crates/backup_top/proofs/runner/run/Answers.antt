@@ -5,7 +5,7 @@ use Rattle.sd_base.specs.declared.words.BadWords.{BadWords as Refusal}
 use Rattle.sd_base.specs.declared.words.Command.{Command}
 use Rattle.backup_top.specs.Run.{IsRun}
 use Rattle.backup_top.proofs.Runs.{some_input, counts_of_uncalled, unwritten}
-use Rattle.backup_top.proofs.top.run.Goals as goal
+use Rattle.backup_top.proofs.runner.run.Goals as goal
 
 pub returns-in-Err-clause-run : goal.returns-in-Err-clause-run
 returns-in-Err-clause-run g c =
