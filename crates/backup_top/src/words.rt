@@ -11,8 +11,8 @@ use sd_base::{
 #[cfg(test)]
 mod tests;
 
-/// Reads the words of the command line, without the path of the store: the command that they name, or the first word
-/// that fails. It takes no memory. Defined by this project.
+/// Reads the words of the command line, without the path of the store: returns the command that they name, or the first
+/// word that fails. It takes no memory.
 pub fn read_words(words: &[String]) -> Result<Command, BadWords>
     ensures { result ≡ command_of (texts_of words.now) }
 {
@@ -29,7 +29,7 @@ pub fn read_words(words: &[String]) -> Result<Command, BadWords>
     }
 }
 
-// Reads the words behind `plan`.
+// Reads the words after `plan`.
 fn read_plan(words: &[String]) -> Result<Command, BadWords>
     ensures { result ≡ plan_of (texts_of words.now) }
 {
@@ -75,21 +75,15 @@ const BITS: Key = Key {
 
 const TARGET: Key = Key {
     name: "target",
-    spelling: Spelling::Decimal,
-    least: 0,
-    greatest: u32::MAX as u64,
+    ..BITS
 };
 
 const MIN: Key = Key {
     name: "min",
-    spelling: Spelling::Decimal,
-    least: 0,
-    greatest: u32::MAX as u64,
+    ..BITS
 };
 
 const MAX: Key = Key {
     name: "max",
-    spelling: Spelling::Decimal,
-    least: 0,
-    greatest: u32::MAX as u64,
+    ..BITS
 };
