@@ -1,4 +1,5 @@
-mod Passes
+mod Runs
+mod Consequences
 mod KeysFlaws
 mod KeysNumbers
 mod KeysSplit

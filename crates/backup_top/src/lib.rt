@@ -4,18 +4,20 @@
 #![tactic(auto)]
 
 mod cuts;
+mod in_memory;
 mod keys;
-mod lines;
 mod notes;
-mod plain;
 mod plan;
+mod plan_text;
+mod reference_cutting;
+mod runner;
 #[cfg(test)]
 mod tests;
-mod top;
 mod words;
 
+pub use in_memory::run_in_memory;
 pub use notes::{note_of, status_of};
-pub use plain::plain_cuts;
+pub use reference_cutting::plain_cuts;
+pub use runner::{run, run_quiet};
 pub use sd_base::{BadKind, BadParams, BadWords, Command, Outcome, Quiet, RawParams};
-pub use top::{run, run_quiet};
 pub use words::read_words;

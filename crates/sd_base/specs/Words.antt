@@ -1,7 +1,7 @@
 -- The words of the command line, as lists of bytes, and the command that they name. Defined by this project.
 use Rattle.std.specs.Prelude.{ℕ, ◌-◌, ◌^◌, List, [], ◌∷◌, codes, Option, Some, None, Result, Ok, Err, if◌then◌else◌}
 use Rattle.std.specs.Str.{bytes_eq}
-use Rattle.sd_base.specs.Keys.{Key, decimal_key, first_bad_word, setting}
+use Rattle.sd_base.specs.Keys.{Key, decimal_key, first_bad_word, value_or_default}
 use Rattle.sd_base.specs.declared.raw_params.RawParams.{RawParams}
 use Rattle.sd_base.specs.declared.words.BadKind.{BadKind}
 use Rattle.sd_base.specs.declared.words.BadKind.TheVariants.{Missing, Command as NoCommand}
@@ -41,11 +41,11 @@ params_keys = polynomial_key ∷ bits_key ∷ target_key ∷ min_key ∷ max_key
 -- the parameters that words set
 abbrev pub params_of : List (List ℕ) → RawParams
 params_of words = record {
-  polynomial = setting words polynomial_key default_params.polynomial;
-  bits = setting words bits_key default_params.bits;
-  target = setting words target_key default_params.target;
-  min = setting words min_key default_params.min;
-  max = setting words max_key default_params.max;
+  polynomial = value_or_default words polynomial_key default_params.polynomial;
+  bits = value_or_default words bits_key default_params.bits;
+  target = value_or_default words target_key default_params.target;
+  min = value_or_default words min_key default_params.min;
+  max = value_or_default words max_key default_params.max;
 }
 
 -- the refusal of the word at a place
