@@ -1,5 +1,5 @@
 ghost use Rattle.std.specs.Prelude.{◌≡◌, ◌++◌, IfOk, OnOk, length, string_bytes};
-ghost use Rattle.sd_base.specs.Cutting.{RiseWithin, parts};
+ghost use Rattle.sd_base.specs.Cutting.{RiseWithin, chunks_between};
 ghost use Rattle.sd_base.specs.Texts.{plan_line, plan_text};
 
 use chunk_names::{Namer, Sha256Namer, hex_of};
@@ -9,7 +9,7 @@ use std::alloc::Global;
 /// The text of `plan`: a line for each chunk of an input, in order. It fails only if memory runs out.
 pub fn text_of_plan(alloc: Global, input: &[u8], cuts: &[u32]) -> Result<String, OutOfMemory>
     requires { RiseWithin 0 (length input.now) cuts.now }
-    ensures { IfOk result (λ lines. string_bytes lines ≡ plan_text (parts input.now 0 cuts.now)) }
+    ensures { IfOk result (λ lines. string_bytes lines ≡ plan_text (chunks_between input.now 0 cuts.now)) }
 {
     let mut lines = String::new(alloc);
     let mut start = 0u32;
