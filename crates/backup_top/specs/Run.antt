@@ -127,5 +127,5 @@ LeavesShelf (Ok (quiet (Plan _ _ _))) before after = after ≡ before
 LeavesShelf (Err _) before after = after ≡ before
 
 -- the fields of a command that no word sets yet have their defaults
-abbrev pub HasDefaults : Quiet → Type 0
-HasDefaults (Plan _ workers segment) = (workers ≡ 4) × (segment ≡ 65536)
+abbrev pub HasDefaultWorkersAndSegment : Quiet → Type 0
+HasDefaultWorkersAndSegment (Plan _ workers segment) = (workers ≡ 4) × (segment ≡ 65536)
