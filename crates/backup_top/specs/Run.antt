@@ -2,7 +2,7 @@
 --
 -- `IsRun` holds of every run. What depends on the command are `LeavesSource` and `LeavesShelf`, with a case for each
 -- command. Each takes the ghost functions of the devices, and the devices themselves before and after the run.
-use Rattle.std.specs.Prelude.{◌≡◌, ◌⊎◌, ◌≤◌, ◌+◌, ⊤, ℕ, List, [], drop, Option, None, Result, Ok, Err, option_map, IfSome}
+use Rattle.std.specs.Prelude.{◌≡◌, ◌⊎◌, ◌≤◌, ◌+◌, ⊤, ℕ, List, [], drop, Option, Result, Ok, Err, option_map, IfSome}
 use Rattle.edge_traits.specs.Faults.{Rose}
 use Rattle.edge_traits.specs.Sink.{Appends, AppendsPrefix}
 use Rattle.edge_traits.specs.Source.{IsAtEnd, LosesAtMost}
