@@ -1,8 +1,8 @@
 -- What follows from the record of a run, in the forms that a caller may want.
-use Rattle.std.proofs.Common.{◌≡◌, ◌↔◌, ◌⊎◌, ℕ, ◌<◌, ◌≤◌, ◌++◌, ltb, List, [], length, take, Option, None, Some, IfSome, Result, Ok, Err, refl, sym, ap, ◌∙◌, subst, inl, inr, arith}
+use Rattle.std.proofs.Common.{◌≡◌, ◌↔◌, ◌⊎◌, ℕ, ◌<◌, ◌≤◌, ltb, List, [], length, take, Option, None, Some, IfSome, Result, Ok, Err, refl, sym, ◌∙◌, subst, inl, inr, arith}
 use Rattle.std.proofs.lemmas.Bool.{cases_Bool, ltb-true, ltb-false}
 use Rattle.std.proofs.Math.Seq.{take-length}
-use Rattle.edge_traits.specs.Sink.{Appends, AppendsPrefix}
+use Rattle.edge_traits.specs.Sink.{AppendsPrefix}
 use Rattle.sd_base.specs.OnePass.{Pass, pass_of, pass_of_plan}
 use Rattle.sd_base.specs.Parameters.{bad_parameter}
 use Rattle.sd_base.specs.declared.limits.TheConstants.{MAX_INPUT}
@@ -14,7 +14,7 @@ use Rattle.sd_base.specs.declared.words.BadWords.{BadWords as Refusal}
 use Rattle.sd_base.specs.declared.words.Command.{Command}
 use Rattle.sd_base.specs.declared.words.Command.TheVariants.{Quiet}
 use Rattle.sd_base.specs.declared.words.Quiet.TheVariants.{Plan}
-use Rattle.backup_top.specs.Run.{EndsAs, IsEarly, IsInputOf, IsRunOn, Writes}
+use Rattle.backup_top.specs.Run.{EndsAs, IsInputOf, IsRunOn, Writes}
 use Rattle.backup_top.proofs.Runs.{prefix_of_nothing}
 
 -- a pass that is not done has no text

@@ -1,8 +1,8 @@
 -- Runs that write nothing, and runs whose pass is stated in two ways.
-use Rattle.std.proofs.Common.{◌≡◌, ℕ, ◌+◌, ◌<◌, true, ◌++◌, List, [], length, replicate, Option, None, Some, IfSome, ltb, inl, inr, refl, subst, arith}
+use Rattle.std.proofs.Common.{◌≡◌, ℕ, ◌+◌, ◌<◌, List, [], length, replicate, Option, None, Some, IfSome, ltb, inl, inr, refl, subst, arith}
 use Rattle.std.proofs.lemmas.Bool.{cases_Bool, lt-ltb}
 use Rattle.std.proofs.lemmas.List.{append-nil, length-replicate}
-use Rattle.edge_traits.specs.Sink.{Appends, AppendsPrefix}
+use Rattle.edge_traits.specs.Sink.{AppendsPrefix}
 use Rattle.sd_base.specs.OnePass.{Pass, refusal, pass_of_plan, pass_of_valid_plan}
 use Rattle.sd_base.specs.Parameters.{bad_parameter}
 use Rattle.sd_base.specs.declared.limits.TheConstants.{MAX_INPUT}
@@ -10,7 +10,7 @@ use Rattle.sd_base.specs.declared.outcome.Outcome.{Outcome}
 use Rattle.sd_base.specs.declared.outcome.Outcome.TheVariants.{InputTooLong}
 use Rattle.sd_base.specs.declared.params.BadParams.{BadParams as BadParameter}
 use Rattle.sd_base.specs.declared.raw_params.RawParams.{RawParams}
-use Rattle.backup_top.specs.Run.{CountsFaults, EndsAs, HasFailed, IsEarly, IsInputOf, IsRun, IsRunOn, Writes}
+use Rattle.backup_top.specs.Run.{CountsFaults, EndsAs, HasFailed, IsEarly, IsInputOf, IsRun, Writes}
 
 -- there is always an input: any bytes may be that of a source that is not observable
 pub some_input : (left : Option (List ℕ)) → (input : List ℕ) × IsInputOf left input

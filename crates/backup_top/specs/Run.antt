@@ -2,7 +2,7 @@
 --
 -- `IsRun` holds of every run. What depends on the command are `LeavesSource` and `LeavesShelf`, with a case for each
 -- command. Each takes the ghost functions of the devices, and the devices themselves before and after the run.
-use Rattle.std.specs.Prelude.{◌≡◌, ◌⊎◌, ◌≤◌, ◌+◌, ⊤, ℕ, List, [], drop, Option, None, Result, Ok, Err, option_map, IfSome}
+use Rattle.std.specs.Prelude.{◌≡◌, ◌⊎◌, ◌≤◌, ◌+◌, ⊤, ℕ, List, [], drop, Option, Result, Ok, Err, option_map, IfSome}
 use Rattle.edge_traits.specs.Faults.{Rose}
 use Rattle.edge_traits.specs.Sink.{Appends, AppendsPrefix}
 use Rattle.edge_traits.specs.Source.{IsAtEnd, LosesAtMost}
@@ -127,5 +127,5 @@ LeavesShelf (Ok (quiet (Plan _ _ _))) before after = after ≡ before
 LeavesShelf (Err _) before after = after ≡ before
 
 -- the fields of a command that no word sets yet have their defaults
-abbrev pub HasDefaults : Quiet → Type 0
-HasDefaults (Plan _ workers segment) = (workers ≡ 4) × (segment ≡ 65536)
+abbrev pub HasDefaultWorkersAndSegment : Quiet → Type 0
+HasDefaultWorkersAndSegment (Plan _ workers segment) = (workers ≡ 4) × (segment ≡ 65536)

@@ -2,7 +2,7 @@ ghost use Rattle.std.specs.Prelude.{Ok};
 ghost use Rattle.sd_base.specs.OnePass.{one_pass, pass_of_command};
 ghost use Rattle.sd_base.specs.Words.{command_of};
 ghost use Rattle.sd_base.specs.declared.words.Command.TheVariants.{Quiet as quiet};
-ghost use Rattle.backup_top.specs.Run.{HasDefaults, IsRun, LeavesShelf, LeavesSource};
+ghost use Rattle.backup_top.specs.Run.{HasDefaultWorkersAndSegment, IsRun, LeavesShelf, LeavesSource};
 ghost use Rattle.backup_top.specs.Words.{texts_of};
 
 use crate::plan::plan;
@@ -50,7 +50,7 @@ pub fn run_quiet<H: Threads + Sync, R: Source, K: Sink, F: Shelf>(
     sink: &mut K,
     shelf: &mut F,
 ) -> Outcome
-    requires { HasDefaults command.now }
+    requires { HasDefaultWorkersAndSegment command.now }
     ensures run { IsRun (pass_of_command (quiet command.now)) result
         R.left R.faults R.faultless source.old source.new
         K.written K.faults K.faultless sink.old sink.new }

@@ -10,12 +10,12 @@ use Rattle.sd_base.specs.declared.words.Quiet.TheVariants.{Plan}
 use Rattle.sd_base.specs.declared.words.Command.{Command}
 use Rattle.sd_base.specs.declared.words.Command.TheVariants.{Quiet}
 
--- the parameters of cutting where none are given: the number of bits, the minimum and the maximum are those of LBFS (SOSP
--- 2001, section 3.1), the polynomial and the target are this project's own
+-- The parameters of cutting if none are given. The number of bits, the minimum and the maximum are those of LBFS (SOSP
+-- 2001, section 3.1); the polynomial and the target are this project's own.
 abbrev pub default_params : RawParams
 default_params = record { polynomial = 0x3DA3358B4DC173; bits = 13; target = 120; min = 2048; max = 65536 }
 
--- `plan` with what is used where no key is given
+-- `plan` if no key is given
 abbrev pub default_plan : Command
 default_plan = Quiet (Plan default_params 4 65536)
 
@@ -57,7 +57,7 @@ abbrev pub unless_bad : Option BadWords → Command → Result Command BadWords
 unless_bad None command = Ok command
 unless_bad (Some bad) command = Err bad
 
--- the words behind `plan`
+-- the words after `plan`
 abbrev pub plan_of : List (List ℕ) → Result Command BadWords
 plan_of words = unless_bad (first_bad_word params_keys [] 1 words) (Quiet (Plan (params_of words) 4 65536))
 

@@ -1,5 +1,5 @@
-use Rattle.std.proofs.Common.{◌≡◌, List, ℕ, Option, refl, subst}
-use Rattle.sd_base.specs.OnePass.{Pass, pass_of_plan}
+use Rattle.std.proofs.Common.{Option, refl, subst}
+use Rattle.sd_base.specs.OnePass.{pass_of_plan}
 use Rattle.sd_base.specs.declared.outcome.Outcome.TheVariants.{BadParams}
 use Rattle.sd_base.specs.declared.params.BadParams.{BadParams as BadParameter}
 use Rattle.backup_top.specs.Run.{IsRun}

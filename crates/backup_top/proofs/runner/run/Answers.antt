@@ -1,4 +1,4 @@
-use Rattle.std.proofs.Common.{◌≡◌, Result, refl, sym, subst}
+use Rattle.std.proofs.Common.{Result, refl, subst}
 use Rattle.sd_base.specs.OnePass.{pass_of}
 use Rattle.sd_base.specs.declared.outcome.Outcome.TheVariants.{BadWords}
 use Rattle.sd_base.specs.declared.words.BadWords.{BadWords as Refusal}
