@@ -241,10 +241,10 @@ def spellings_of_a_number_are_read():
 
 
 def marks_of_the_longest_input():
-    """Candidates near each power of 2 and, apart from these, about one in 3 MB."""
+    """Candidates at or beside the powers of 2 and, apart from these, about one in 3 MB."""
     draw, candidates = Random(28), {LONGEST_INPUT}
     for power in range(16, 28):
-        candidates.add(2**power + draw.randrange(-1, 2))
+        candidates.add(2**power + power % 3 - 1)
     for start in range(2**20, LONGEST_INPUT - 2**20, 3_000_000):
         candidates.add(start + draw.randrange(900_000))
     return sorted(candidates)

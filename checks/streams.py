@@ -198,12 +198,16 @@ def expect_part(wanted, written):
 
 @test
 def output_that_fills_up_has_a_part_of_the_text():
-    # The file takes 512 bytes. A write beyond them fails, since the signal for it is ignored.
-    limiting = ("sh", "-c", "trap '' XFSZ; ulimit -f 1; exec \"$@\"", "sh")
-    with tempfile.TemporaryFile() as file:
-        expect_refusal(run(MANY_LINES, bytes(6400), file, limiting), WRITING)
-        file.seek(0)
-        expect_part(lines_of_zeros(6400), file.read())
+    def expect_row(blocks, length):
+        # A write beyond so many blocks fails, since the signal for it is ignored.
+        limiting = ("sh", "-c", f"trap '' XFSZ; ulimit -f {blocks}; exec \"$@\"", "sh")
+        with tempfile.TemporaryFile() as file:
+            expect_refusal(run(MANY_LINES, bytes(length), file, limiting), WRITING)
+            file.seek(0)
+            expect_part(lines_of_zeros(length), file.read())
+
+    # A block has 512 or 1024 bytes, and the longest text has 7.6 MB.
+    each_row([(1, 6_400), (100, 200_000), (4_000, 6_400_000)], expect_row)
 
 
 @test

@@ -22,21 +22,15 @@ fn main(rt: HostRuntime) -> ExitCode {
     ExitCode::from(status_of(&outcome))
 }
 
-// The words behind the program's name and the path of the store.
+// The words after the program's name and the path of the store.
 fn words_of(rt: &(impl env::Env + AllocGlobal)) -> Result<Vec<String>, Outcome> {
-    let mut args = env::args(rt).map_err(outcome_of_args)?;
-    let _program = args.next();
-    let _store = args.next();
-    let mut words = Vec::new(rt.alloc());
-    for word in args {
-        if words.push(word).is_err() {
-            return Err(Outcome::OutOfMemory);
-        }
-    }
-    Ok(words)
+    let args = env::args(rt).map_err(outcome_of_args)?;
+    args.skip(2)
+        .collect(rt.alloc())
+        .map_err(|_| Outcome::OutOfMemory)
 }
 
-// Words that are no text name no command; where they stand is not told.
+// Words that are no text name no command; the runtime does not say at which place one is.
 fn outcome_of_args(error: io::Error) -> Outcome {
     if error.kind() == io::ErrorKind::OutOfMemory {
         return Outcome::OutOfMemory;

@@ -9,13 +9,13 @@ use Rattle.std.proofs.lemmas.Slice.Eq.{bytes_eq-Decides}
 use Rattle.std.specs.List.{find, list_any}
 use Rattle.std.specs.Str.{bytes_eq}
 use Rattle.sd_base.specs.declared.words.BadKind.TheVariants.{Value}
-use Rattle.sd_base.specs.Keys.{Key, is_equals_sign, key_of, value_of, sets, number_of, bad_kind_of_value, bad_kind_of, first_bad_word}
+use Rattle.sd_base.specs.Keys.{Key, is_equals_sign, key_name_of, value_of, sets_key, number_of, bad_kind_of_value, bad_kind_of, first_bad_word}
 
 abbrev pub is_named : List ℕ → Key → Bool
 is_named name key = bytes_eq key.name name
 
 -- what is wrong with a word that sets a key for the first time
-pub first_of_key : (keys : List Key) (before : List (List ℕ)) (word name value : List ℕ) (key : Key) (r : Option ℕ) → list_any is_equals_sign word ≡ true → name ≡ key_of word → value ≡ value_of word → find (is_named name) keys ≡ Some key → list_any (sets name) before ≡ false → r ≡ number_of key value → bad_kind_of keys before word ≡ cond (is_some r) None (Some Value)
+pub first_of_key : (keys : List Key) (before : List (List ℕ)) (word name value : List ℕ) (key : Key) (r : Option ℕ) → list_any is_equals_sign word ≡ true → name ≡ key_name_of word → value ≡ value_of word → find (is_named name) keys ≡ Some key → list_any (sets_key name) before ≡ false → r ≡ number_of key value → bad_kind_of keys before word ≡ cond (is_some r) None (Some Value)
 first_of_key keys before word name value key r cut left right known free read =
     let known_left = rw left at known in
     let free_left = rw left at free in
@@ -24,7 +24,7 @@ first_of_key keys before word name value key r cut left right known free read =
 -- how many keys no word sets
 abbrev pub unset : List Key → List (List ℕ) → ℕ
 unset [] words = 0
-unset (key ∷ keys) words = cond (list_any (sets key.name) words) 0 1 + unset keys words
+unset (key ∷ keys) words = cond (list_any (sets_key key.name) words) 0 1 + unset keys words
 
 -- before the first word each key is left
 pub unset_at_first : {A : Type 0} (f : A → Key) (keys : List A) → unset (map f keys) [] ≡ length keys
@@ -36,27 +36,27 @@ more : (keys : List Key) (before : List (List ℕ)) (word : List ℕ) → unset 
 more [] before word = omega arith
 more (key ∷ keys) before word =
     let rest = more keys before word in
-    elim (cases_Bool (list_any (sets key.name) before)) [
-      | inl set ↦ rw (list_any-append (sets key.name) before (word ∷ []), set) (omega arith)
-      | inr free ↦ elim (cases_Bool (sets key.name word)) [
-        | inl sets_it ↦ rw (list_any-append (sets key.name) before (word ∷ []), free, sets_it) (omega arith)
-        | inr not ↦ rw (list_any-append (sets key.name) before (word ∷ []), free, not) (omega arith)
+    elim (cases_Bool (list_any (sets_key key.name) before)) [
+      | inl set ↦ rw (list_any-append (sets_key key.name) before (word ∷ []), set) (omega arith)
+      | inr free ↦ elim (cases_Bool (sets_key key.name word)) [
+        | inl sets_it ↦ rw (list_any-append (sets_key key.name) before (word ∷ []), free, sets_it) (omega arith)
+        | inr not ↦ rw (list_any-append (sets_key key.name) before (word ∷ []), free, not) (omega arith)
       ]
     ]
 
 -- a word that sets a key that was not set
-one_less : (keys : List Key) (before : List (List ℕ)) (word : List ℕ) → find (is_named (key_of word)) keys ≢ None → list_any (sets (key_of word)) before ≡ false → unset keys (before ++ word ∷ []) + 1 ≤ unset keys before
+one_less : (keys : List Key) (before : List (List ℕ)) (word : List ℕ) → find (is_named (key_name_of word)) keys ≢ None → list_any (sets_key (key_name_of word)) before ≡ false → unset keys (before ++ word ∷ []) + 1 ≤ unset keys before
 one_less [] before word known free = absurd (known refl)
 one_less (key ∷ keys) before word known free =
-    elim (cases_Bool (is_named (key_of word) key)) [
+    elim (cases_Bool (is_named (key_name_of word) key)) [
       | inl here ↦
-          let same : key.name ≡ key_of word = (bytes_eq-Decides key.name (key_of word)).0 here in
-          let was : list_any (sets key.name) before ≡ false = ap (λ name. list_any (sets name) before) same ∙ free in
-          let is : sets key.name word ≡ true = (bytes_eq-Decides (key_of word) key.name).1 (sym same) in
+          let same : key.name ≡ key_name_of word = (bytes_eq-Decides key.name (key_name_of word)).0 here in
+          let was : list_any (sets_key key.name) before ≡ false = ap (λ name. list_any (sets_key name) before) same ∙ free in
+          let is : sets_key key.name word ≡ true = (bytes_eq-Decides (key_name_of word) key.name).1 (sym same) in
           let rest = more keys before word in
-          rw (list_any-append (sets key.name) before (word ∷ []), was, is) (omega arith)
+          rw (list_any-append (sets_key key.name) before (word ∷ []), was, is) (omega arith)
       | inr other ↦
-          let later : find (is_named (key_of word)) keys ≢ None = λ none. known (rw other none) in
+          let later : find (is_named (key_name_of word)) keys ≢ None = λ none. known (rw other none) in
           let rest = one_less keys before word later free in
           let here = more (key ∷ []) before word in
           omega arith
@@ -68,7 +68,7 @@ no_bad_kind_of_value (Some key) true value none = absurd (cc)
 no_bad_kind_of_value (Some key) false value none = (λ no. absurd (cc), refl)
 
 -- what is known of a word without a flaw
-no_flaw : (keys : List Key) (before : List (List ℕ)) (word : List ℕ) → bad_kind_of keys before word ≡ None → (find (is_named (key_of word)) keys ≢ None) × (list_any (sets (key_of word)) before ≡ false)
+no_flaw : (keys : List Key) (before : List (List ℕ)) (word : List ℕ) → bad_kind_of keys before word ≡ None → (find (is_named (key_name_of word)) keys ≢ None) × (list_any (sets_key (key_name_of word)) before ≡ false)
 no_flaw keys before word none = elim (cases_Bool (list_any is_equals_sign word)) [
   | inl cut ↦ no_bad_kind_of_value _ _ (value_of word) (rw cut at none)
   | inr uncut ↦ absurd (let bad = rw uncut at none in cc)
@@ -81,7 +81,7 @@ left_step f keys words i d within none =
     rw (add-one i, take-suc words i d within, map-append f (take i words) (get_or words i d ∷ []))
     (one_less keys (map f (take i words)) (f (get_or words i d)) known.0 known.1)
 
--- where a word has no flaw, the first flaw is a later word's
+-- if a word has no flaw, the first flaw is a later word's
 pub later_step : {A : Type 0} (f : A → List ℕ) (keys : List Key) (words : List A) (i : ℕ) (d : A) → i < length words → bad_kind_of keys (map f (take i words)) (f (get_or words i d)) ≡ None → first_bad_word keys (map f (take i words)) (i + 1) (map f (drop i words)) ≡ first_bad_word keys (map f (take (i + 1) words)) (i + 1 + 1) (map f (drop (i + 1) words))
 later_step f keys words i d within none =
     rw (drop-cons words i d within, none, add-one i, take-suc words i d within, map-append f (take i words) (get_or words i d ∷ [])) refl

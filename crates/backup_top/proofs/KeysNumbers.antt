@@ -38,7 +38,7 @@ spells key text small h =
       no_sign = without_leading_plus_none text (no_plus key.base text small all);
     }
 
--- a text that spells a number is read where that fits 64 bits
+-- a text that spells a number is read if that fits 64 bits
 pub is_read : {E : Type 0} (key : Key) (text : List ℕ) (r : Result ℕ E) → key.base ≤ 36 → is_spelled key text ≡ true → ParsesUnsigned 64 key.base text r → OkIff r (digits_value key.base text < 2 ^ 64) (digits_value key.base text)
 is_read key text (Ok value) small h parses =
     let s = spells key text small h in
@@ -56,7 +56,7 @@ number_outside key text outside = elim (cases_Bool (leb key.least (digits_value 
   | inl least ↦ rw (lt-leb (digits_value key.base text) key.greatest (omega (arith, outside (leb-true _ _ least)))) (search (rules, and_right))
 ]
 
--- what is left to test where the length and the digits of a text are right
+-- what is left to test if the length and the digits of a text are right
 pub decimal_rest : (key : Key) (text : List ℕ) → key.base ≡ 10 → 1 ≤ length text → length text ≤ key.most_digits → list_all (λ c. ltb (digit_value c) key.base) text ≡ true → length text ≢ 1 → is_spelled key text ≡ not (eqb (get_or text 0 0) 48)
 decimal_rest key text ten some few digits long = rw (le-leb 1 (length text) some, le-leb (length text) key.most_digits few, digits, ten, ne_eqb (length text) 1 long) refl
 

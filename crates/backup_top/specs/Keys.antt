@@ -1,7 +1,7 @@
--- The keys of a command as the program holds them.
+-- The keys of a command in the program, and what they are in the definitions.
 use Rattle.std.specs.Prelude.{ℕ, List, map}
 use Rattle.sd_base.specs.Keys.{Key}
-use Rattle.backup_top.specs.declared.keys.Key.{Key as Held}
+use Rattle.backup_top.specs.declared.keys.Key.{Key as ProgramKey}
 use Rattle.backup_top.specs.declared.keys.Spelling.{Spelling}
 use Rattle.backup_top.specs.declared.keys.Spelling.TheVariants.{Decimal, Hexadecimal}
 
@@ -15,9 +15,9 @@ abbrev pub most_digits_of : Spelling → ℕ
 most_digits_of Decimal = 20
 most_digits_of Hexadecimal = 16
 
--- a key that the program holds, as the definitions have it
-abbrev pub key_held : Held → Key
-key_held key = record {
+-- a key of the program, as the definitions have it
+abbrev pub key_spec_of : ProgramKey → Key
+key_spec_of key = record {
   name = key.name.now;
   base = base_of key.spelling;
   most_digits = most_digits_of key.spelling;
@@ -25,5 +25,5 @@ key_held key = record {
   greatest = key.greatest;
 }
 
-abbrev pub keys_held : List Held → List Key
-keys_held keys = map key_held keys
+abbrev pub key_specs_of : List ProgramKey → List Key
+key_specs_of keys = map key_spec_of keys

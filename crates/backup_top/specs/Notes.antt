@@ -1,4 +1,5 @@
--- The status of an outcome, and the note that the program writes to standard error. Defined by this project.
+-- The status of an outcome, and the note that the program writes to standard error. All rules here
+-- are this project's own.
 use Rattle.std.specs.Prelude.{ℕ, List, [], ◌∷◌, ◌++◌, codes}
 use Rattle.std.specs.Fmt.{decimal}
 use Rattle.sd_base.specs.declared.params.BadParams.{BadParams as BadParameter}

@@ -1,10 +1,13 @@
--- How a run may answer, and what it may write, where the one-pass definition says how it ends and what its text is.
--- Defined by this project.
-use Rattle.std.specs.Prelude.{◌≡◌, ◌⊎◌, ◌≤◌, ⊤, ℕ, List, length, Option, None, Result, Ok, Err}
+-- What a run does: how it ends, what it writes, and what it leaves of its devices. All rules here are this project's own.
+--
+-- `IsRun` holds of every run. What depends on the command are `LeavesSource` and `LeavesShelf`, with a case for each
+-- command. Each takes the ghost functions of the devices, and the devices themselves before and after the run.
+use Rattle.std.specs.Prelude.{◌≡◌, ◌⊎◌, ◌≤◌, ◌+◌, ⊤, ℕ, List, [], drop, Option, Result, Ok, Err, option_map, IfSome}
+use Rattle.edge_traits.specs.Faults.{Rose}
 use Rattle.edge_traits.specs.Sink.{Appends, AppendsPrefix}
-use Rattle.sd_base.specs.Parameters.{bad_parameter}
+use Rattle.edge_traits.specs.Source.{IsAtEnd, LosesAtMost}
+use Rattle.sd_base.specs.OnePass.{Pass}
 use Rattle.sd_base.specs.declared.limits.TheConstants.{MAX_INPUT}
-use Rattle.sd_base.specs.declared.params.BadParams.{BadParams as BadParameter}
 use Rattle.sd_base.specs.declared.words.BadWords.{BadWords as Refusal}
 use Rattle.sd_base.specs.declared.words.Command.{Command}
 use Rattle.sd_base.specs.declared.words.Command.TheVariants.{Quiet as quiet}
@@ -13,12 +16,21 @@ use Rattle.sd_base.specs.declared.words.Quiet.TheVariants.{Plan}
 use Rattle.sd_base.specs.declared.outcome.Outcome.{Outcome}
 use Rattle.sd_base.specs.declared.outcome.Outcome.TheVariants.{Done, BadWords, BadParams, InputTooLong, SourceFault, SinkFault, OutOfMemory}
 
--- A run answers as expected, or with the fault of a device that failed during the run, or for want of memory.
-abbrev pub Answers : Outcome → Type 0 → Type 0 → Outcome → Type 0
-Answers expected source_failed sink_failed outcome =
-    (outcome ≡ expected) ⊎ ((outcome ≡ SourceFault) × source_failed) ⊎ ((outcome ≡ SinkFault) × sink_failed) ⊎ (outcome ≡ OutOfMemory)
+-- The bytes may be the input of a run: they are what the source had left, if the source is observable.
+abbrev pub IsInputOf : Option (List ℕ) → List ℕ → Type 0
+IsInputOf left input = IfSome left (λ held. input ≡ held)
 
--- the whole text where all is done, a prefix of it where writing failed or no memory was found, and else nothing
+-- A run may end so: with the fault of a device that failed, out of memory, or else as the definition expects.
+abbrev pub EndsAs : Outcome → Type 0 → Type 0 → Outcome → Type 0
+EndsAs expected source_failed sink_failed SourceFault = source_failed
+EndsAs expected source_failed sink_failed SinkFault = sink_failed
+EndsAs expected source_failed sink_failed OutOfMemory = ⊤
+EndsAs expected source_failed sink_failed Done = Done ≡ expected
+EndsAs expected source_failed sink_failed (BadWords bad) = BadWords bad ≡ expected
+EndsAs expected source_failed sink_failed (BadParams kind) = BadParams kind ≡ expected
+EndsAs expected source_failed sink_failed InputTooLong = InputTooLong ≡ expected
+
+-- On Done the whole text was written, after a failed write or out of memory a prefix of it, and otherwise nothing.
 abbrev pub Writes : Outcome → List ℕ → Option (List ℕ) → Option (List ℕ) → Type 0
 Writes Done text before after = Appends before after text
 Writes SinkFault text before after = AppendsPrefix before after text
@@ -28,29 +40,7 @@ Writes (BadParams kind) text before after = after ≡ before
 Writes InputTooLong text before after = after ≡ before
 Writes SourceFault text before after = after ≡ before
 
--- the text is that of a run on some input that is not too long, where each input has the text that `text_of` says
-abbrev pub IsTextOfSome : (List ℕ → List ℕ) → List ℕ → Type 0
-IsTextOfSome text_of text = (input : List ℕ) × (length input ≤ MAX_INPUT) × (text_of input ≡ text)
-
--- the whole text of a run on some input that is not too long was written
-abbrev pub AppendsOfSome : (List ℕ → List ℕ) → Option (List ℕ) → Option (List ℕ) → Type 0
-AppendsOfSome text_of before after = (input : List ℕ) × (length input ≤ MAX_INPUT) × Appends before after (text_of input)
-
--- a prefix of the text of a run on some input was written: nothing else ever is
-abbrev pub AppendsPrefixOfSome : (List ℕ → List ℕ) → Option (List ℕ) → Option (List ℕ) → Type 0
-AppendsPrefixOfSome text_of before after = (input : List ℕ) × AppendsPrefix before after (text_of input)
-
--- an answer before which the sink is not called, whatever the devices tell
-abbrev pub IsSilent : Outcome → Type 0
-IsSilent Done = ⊥
-IsSilent SinkFault = ⊥
-IsSilent OutOfMemory = ⊥
-IsSilent (BadWords bad) = ⊤
-IsSilent (BadParams kind) = ⊤
-IsSilent InputTooLong = ⊤
-IsSilent SourceFault = ⊤
-
--- a refusal that comes before anything is read
+-- a refusal that is decided before any device is called
 abbrev pub IsEarly : Outcome → Type 0
 IsEarly (BadWords bad) = ⊤
 IsEarly (BadParams kind) = ⊤
@@ -60,15 +50,82 @@ IsEarly SourceFault = ⊥
 IsEarly SinkFault = ⊥
 IsEarly OutOfMemory = ⊥
 
--- the first number of a command that is out of its range
-abbrev pub bad_parameter_in : Quiet → Option BadParameter
-bad_parameter_in (Plan raw _ _) = bad_parameter raw
+-- an outcome of a run that writes nothing
+abbrev pub IsSilent : Outcome → Type 0
+IsSilent Done = ⊥
+IsSilent SinkFault = ⊥
+IsSilent OutOfMemory = ⊥
+IsSilent (BadWords bad) = ⊤
+IsSilent (BadParams kind) = ⊤
+IsSilent InputTooLong = ⊤
+IsSilent SourceFault = ⊤
 
--- the same of what words name
-abbrev pub bad_parameter_of : Result Command Refusal → Option BadParameter
-bad_parameter_of (Ok (quiet command)) = bad_parameter_in command
-bad_parameter_of (Err bad) = None
+-- A device failed in a run: its count of faults rose, and it was not known that it would not fail any more.
+pub record HasFailed (faultless : Type 0) (before after : ℕ) : Type 0 where
+  pub rose : Rose before after
+  pub may_fail : faultless → ⊥
+
+-- What a run does to a device's count of faults.
+pub record CountsFaults {D : Type 0} (faults : D → ℕ) (faultless : D → Type 0) (before after : D) : Type 0 where
+  -- The count never falls.
+  pub never_falls : faults before ≤ faults after
+  -- If the device will not fail any more, it counts no fault, and it still will not fail.
+  pub counts_none : faultless before → faults after ≡ faults before
+  pub stays_faultless : faultless before → faultless after
+
+-- How a run on one input ends and what it writes, from the pass that the definition has for this input.
+pub record IsRunOn {K : Type 0} (pass : Pass) (outcome : Outcome) (source_failed sink_failed : Type 0) (written_to : K → Option (List ℕ)) (before after : K) : Type 0 where
+  -- The outcome is that of the definition, or the fault of a device that failed in this run, or out of memory.
+  pub answer : EndsAs pass.outcome source_failed sink_failed outcome
+  -- Bad words and bad parameters are always refused, whatever the devices do and whether there is memory.
+  pub refused : IsEarly pass.outcome → outcome ≡ pass.outcome
+  -- The sink received the text of the definition, as `Writes` says.
+  pub written : Writes outcome pass.text (written_to before) (written_to after)
+  -- If the text is empty, the sink is as it was.
+  pub nothing_to_write : pass.text ≡ [] → after ≡ before
+
+-- Every run: `pass` is the definition's pass for each input.
+pub record IsRun {R K : Type 0} (pass : List ℕ → Pass) (outcome : Outcome) (left : R → Option (List ℕ)) (read_faults : R → ℕ) (source_faultless : R → Type 0) (source_before source_after : R) (written_to : K → Option (List ℕ)) (write_faults : K → ℕ) (sink_faultless : K → Type 0) (sink_before sink_after : K) : Type 0 where
+  -- There is an input, which is the source's bytes if the source is observable, and the run is that of the definition on
+  -- it.
+  pub on_some_input :
+      (input : List ℕ) × IsInputOf (left source_before) input
+      × IsRunOn (pass input) outcome
+      (HasFailed (source_faultless source_before) (read_faults source_before) (read_faults source_after))
+      (HasFailed (sink_faultless sink_before) (write_faults sink_before) (write_faults sink_after))
+      written_to sink_before sink_after
+  -- What the devices count.
+  pub source_counts : CountsFaults read_faults source_faultless source_before source_after
+  pub sink_counts : CountsFaults write_faults sink_faultless sink_before sink_after
+  -- After bad words, bad parameters, an input that is too long and a failed read the sink is as it was.
+  pub silent : IsSilent outcome → sink_after ≡ sink_before
+  -- After bad words and bad parameters the source is as it was.
+  pub untouched : IsEarly outcome → source_after ≡ source_before
+
+-- What a run of a command that reads its input leaves of the source.
+pub record ReadsInput {R K : Type 0} (outcome : Outcome) (left : R → Option (List ℕ)) (source_before source_after : R) (sink_before sink_after : K) : Type 0 where
+  -- On Done the source was read to its end.
+  pub whole_input : outcome ≡ Done → IsAtEnd (left source_after)
+  -- After a failed write it was read to its end too.
+  pub read_first : outcome ≡ SinkFault → IsAtEnd (left source_after)
+  -- The sink is as it was, unless the source was read to its end.
+  pub written_last : (sink_after ≡ sink_before) ⊎ IsAtEnd (left source_after)
+  -- At most 2^28 + 1 bytes were taken from the source.
+  pub taken_at_most : LosesAtMost (MAX_INPUT + 1) (left source_before) (left source_after)
+  -- If the input is too long, 2^28 + 1 bytes were taken.
+  pub taken : outcome ≡ InputTooLong → left source_after ≡ option_map (λ input. drop (MAX_INPUT + 1) input) (left source_before)
+
+-- What a run leaves of the source, by what its words name.
+abbrev pub LeavesSource : {R K : Type 0} → Result Command Refusal → Outcome → (R → Option (List ℕ)) → R → R → K → K → Type 0
+LeavesSource (Ok (quiet (Plan _ _ _))) outcome left source_before source_after sink_before sink_after =
+    ReadsInput outcome left source_before source_after sink_before sink_after
+LeavesSource (Err _) outcome left source_before source_after sink_before sink_after = source_after ≡ source_before
+
+-- What a run leaves of the shelf, by what its words name.
+abbrev pub LeavesShelf : {F : Type 0} → Result Command Refusal → F → F → Type 0
+LeavesShelf (Ok (quiet (Plan _ _ _))) before after = after ≡ before
+LeavesShelf (Err _) before after = after ≡ before
 
 -- the fields of a command that no word sets yet have their defaults
-abbrev pub HasDefaults : Quiet → Type 0
-HasDefaults (Plan _ workers segment) = (workers ≡ 4) × (segment ≡ 65536)
+abbrev pub HasDefaultWorkersAndSegment : Quiet → Type 0
+HasDefaultWorkersAndSegment (Plan _ workers segment) = (workers ≡ 4) × (segment ≡ 65536)

@@ -1,4 +1,4 @@
--- The words of the command line as the program holds them.
+-- The words of the command line in the program.
 use Rattle.std.specs.Prelude.{ℕ, List, map, String, string_bytes}
 use Rattle.std.specs.declared.alloc.Global.{Global}
 

@@ -1,11 +1,11 @@
-//! The keys of a command, and what words of the form KEY=VALUE set them to. Nothing here takes memory.
+//! The keys of a command, and the values that words of the form KEY=VALUE set them to. Nothing here takes memory.
 
 ghost use Rattle.std.specs.Prelude.{◌≡◌, ◌+◌, ◌^◌, ◌<◌, ◌≤◌, [], length, true, false, nat_lt, option_map, MatchOption};
 ghost use Rattle.std.specs.Char.{digit_value};
 ghost use Rattle.std.specs.List.{find, list_all, list_any};
 ghost use Rattle.std.specs.Str.{bytes_eq};
-ghost use Rattle.sd_base.specs.Keys.{first_bad_word as first_bad_word_of, bad_kind_of as bad_kind_of_word, is_equals_sign, is_spelled as spelled, key_of, number_of, sets, setting as setting_of, value_of as value_of_word};
-ghost use Rattle.backup_top.specs.Keys.{base_of, key_held, keys_held, most_digits_of};
+ghost use Rattle.sd_base.specs.Keys.{first_bad_word as first_bad_word_of, bad_kind_of as bad_kind_of_word, is_equals_sign, is_spelled as spelled, key_name_of, number_of, sets_key, value_or_default as value_or_default_of, value_of as value_of_word};
+ghost use Rattle.backup_top.specs.Keys.{base_of, key_spec_of, key_specs_of, most_digits_of};
 ghost use Rattle.backup_top.specs.Words.{texts_of};
 
 use sd_base::{BadKind, BadWords};
@@ -50,11 +50,11 @@ pub struct Key {
     pub greatest: u64,
 }
 
-/// The first word that fails, of those behind the command. Each word before it sets a key of its own, so its place is at
+/// The first word that fails, of those after the command. Each word before it sets a key of its own, so its place is at
 /// most one more than the number of keys.
 pub fn first_bad_word(keys: &[Key], words: &[String]) -> Option<BadWords>
     requires { length keys.now + 1 < 2 ^ 32 }
-    ensures { result ≡ first_bad_word_of (keys_held keys.now) [] 1 (texts_of words.now) }
+    ensures { result ≡ first_bad_word_of (key_specs_of keys.now) [] 1 (texts_of words.now) }
 {
     for (i, word) in words.iter().enumerate() {
         if let Some(kind) = bad_kind_of(keys, &words[..i], word.as_str()) {
@@ -65,15 +65,15 @@ pub fn first_bad_word(keys: &[Key], words: &[String]) -> Option<BadWords>
     None
 }
 
-/// What the words set a key to, or else its default.
-pub fn setting(words: &[String], key: &Key, default: u64) -> u64
+/// The value that the words set a key to, or otherwise its default.
+pub fn value_or_default(words: &[String], key: &Key, default: u64) -> u64
     requires { default ≤ key.now.greatest }
-    ensures value { result ≡ setting_of (texts_of words.now) (key_held key.now) default }
-    ensures within { result ≤ key.now.greatest }
+    ensures value { result ≡ value_or_default_of (texts_of words.now) (key_spec_of key.now) default }
+    ensures in_range { result ≤ key.now.greatest }
 {
     for word in words {
-        if name_of(word.as_str()) == key.name {
-            return number(key, value_of(word.as_str())).unwrap_or(default);
+        if key_name(word.as_str()) == key.name {
+            return parse_value(key, value_of(word.as_str())).unwrap_or(default);
         }
     }
     default
@@ -81,25 +81,25 @@ pub fn setting(words: &[String], key: &Key, default: u64) -> u64
 
 // What is wrong with a word, from those before it.
 fn bad_kind_of(keys: &[Key], before: &[String], word: &str) -> Option<BadKind>
-    ensures { result ≡ bad_kind_of_word (keys_held keys.now) (texts_of before.now) word.now }
+    ensures { result ≡ bad_kind_of_word (key_specs_of keys.now) (texts_of before.now) word.now }
 {
-    let Some((name, value)) = split(word) else {
+    let Some((name, value)) = split_word(word) else {
         return Some(BadKind::Key);
     };
-    let Some(key) = key_named(keys, name) else {
+    let Some(key) = find_key(keys, name) else {
         return Some(BadKind::Key);
     };
     if is_set(before, name) {
         return Some(BadKind::Twice);
     }
-    if number(key, value).is_none() {
+    if parse_value(key, value).is_none() {
         return Some(BadKind::Value);
     }
     None
 }
 
-fn key_named<'a>(keys: &'a [Key], name: &str) -> Option<&'a Key>
-    ensures { option_map (λ key. key_held key.now) result ≡ find (λ key. bytes_eq key.name name.now) (keys_held keys.now) }
+fn find_key<'a>(keys: &'a [Key], name: &str) -> Option<&'a Key>
+    ensures { option_map (λ key. key_spec_of key.now) result ≡ find (λ key. bytes_eq key.name name.now) (key_specs_of keys.now) }
 {
     for key in keys {
         if key.name == name {
@@ -110,10 +110,10 @@ fn key_named<'a>(keys: &'a [Key], name: &str) -> Option<&'a Key>
 }
 
 fn is_set(before: &[String], name: &str) -> bool
-    ensures { result ≡ list_any (sets name.now) (texts_of before.now) }
+    ensures { result ≡ list_any (sets_key name.now) (texts_of before.now) }
 {
     for word in before {
-        if name_of(word.as_str()) == name {
+        if key_name(word.as_str()) == name {
             return true;
         }
     }
@@ -121,35 +121,29 @@ fn is_set(before: &[String], name: &str) -> bool
 }
 
 // The two sides of the first `=` of a word.
-fn split(word: &str) -> Option<(&str, &str)>
+fn split_word(word: &str) -> Option<(&str, &str)>
     ensures { MatchOption result (list_any is_equals_sign word.now ≡ false) (λ sides.
         (list_any is_equals_sign word.now ≡ true)
-        × (sides.0.now ≡ key_of word.now) × (sides.1.now ≡ value_of_word word.now)) }
+        × (sides.0.now ≡ key_name_of word.now) × (sides.1.now ≡ value_of_word word.now)) }
 {
     word.split_once('=')
 }
 
-fn name_of(word: &str) -> &str
-    ensures { result.now ≡ key_of word.now }
+fn key_name(word: &str) -> &str
+    ensures { result.now ≡ key_name_of word.now }
 {
-    match word.split_once('=') {
-        Some((name, _)) => name,
-        None => word,
-    }
+    word.split_once('=').map_or(word, |(name, _)| name)
 }
 
 fn value_of(word: &str) -> &str
     ensures { result.now ≡ value_of_word word.now }
 {
-    match word.split_once('=') {
-        Some((_, value)) => value,
-        None => "",
-    }
+    word.split_once('=').map_or("", |(_, value)| value)
 }
 
 // The value of a key that a text spells.
-fn number(key: &Key, text: &str) -> Option<u64>
-    ensures { result ≡ number_of (key_held key.now) text.now }
+fn parse_value(key: &Key, text: &str) -> Option<u64>
+    ensures { result ≡ number_of (key_spec_of key.now) text.now }
 {
     let (least, greatest) = (key.least, key.greatest);
     if !is_spelled(key, text.as_bytes()) {
@@ -166,7 +160,7 @@ fn number(key: &Key, text: &str) -> Option<u64>
 }
 
 fn is_spelled(key: &Key, text: &[u8]) -> bool
-    ensures { result ≡ spelled (key_held key.now) text.now }
+    ensures { result ≡ spelled (key_spec_of key.now) text.now }
 {
     if text.is_empty() || text.len() > key.spelling.most_digits() {
         return false;

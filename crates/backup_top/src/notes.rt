@@ -1,10 +1,11 @@
-ghost use Rattle.std.specs.Prelude.{◌≡◌, ◌++◌, IfOk, codes, string_bytes};
-ghost use Rattle.backup_top.specs.Notes.{bad_words_text, kind_text, note, note_line, parameter_text, status};
+ghost use Rattle.std.specs.Prelude.{◌≡◌, IfOk, Some, string_bytes};
+ghost use Rattle.backup_top.specs.Notes.{kind_text, note, parameter_text, status};
 
 use sd_base::{BadKind, BadParams, BadWords, OutOfMemory, Outcome};
 use std::alloc::Global;
+use std::fmt;
 
-/// The status with which the program ends. It takes no memory. Defined by this project.
+/// The status with which the program ends. It takes no memory.
 pub fn status_of(outcome: &Outcome) -> u8
     ensures { result ≡ status outcome.now }
 {
@@ -19,41 +20,40 @@ pub fn status_of(outcome: &Outcome) -> u8
     }
 }
 
-/// The note of an outcome: a line for standard error, with its line feed, or nothing where all is done. The refusal is
-/// want of memory alone. Defined by this project.
+/// The note of an outcome: a line for standard error, with its line feed, or nothing if all is done. It fails only if
+/// memory runs out.
 pub fn note_of(alloc: Global, outcome: &Outcome) -> Result<String, OutOfMemory>
     ensures { IfOk result (λ text. string_bytes text ≡ note outcome.now) }
 {
-    match outcome {
-        Outcome::Done => Ok(String::new(alloc)),
-        Outcome::BadWords(bad) => bad_words_line(alloc, *bad),
-        Outcome::BadParams(kind) => bad_params_line(alloc, *kind),
-        Outcome::InputTooLong => line(alloc, "input too long"),
-        Outcome::SourceFault => line(alloc, "reading failed"),
-        Outcome::SinkFault => line(alloc, "writing failed"),
-        Outcome::OutOfMemory => line(alloc, "out of memory"),
+    let note = Note(*outcome);
+    Ok(format!(in alloc; "{note}")?)
+}
+
+// The note of an outcome, as it is printed.
+#[derive(Clone, Copy)]
+struct Note(Outcome);
+
+impl fmt::Display for Note {
+    ghost output = { λ printed. Some (note printed.0) };
+
+    fn fmt<W: fmt::Write>(&self, f: &mut fmt::Formatter<W>) -> fmt::Result {
+        match self.0 {
+            Outcome::Done => Ok(()),
+            Outcome::BadWords(bad) => {
+                let place = bad.place;
+                let kind = text_of_kind(bad.kind);
+                writeln!(f, "backup: bad words at {place}: {kind}")
+            }
+            Outcome::BadParams(kind) => {
+                let parameter = text_of_parameter(kind);
+                writeln!(f, "backup: bad parameter: {parameter}")
+            }
+            Outcome::InputTooLong => writeln!(f, "backup: input too long"),
+            Outcome::SourceFault => writeln!(f, "backup: reading failed"),
+            Outcome::SinkFault => writeln!(f, "backup: writing failed"),
+            Outcome::OutOfMemory => writeln!(f, "backup: out of memory"),
+        }
     }
-}
-
-fn line(alloc: Global, text: &str) -> Result<String, OutOfMemory>
-    ensures { IfOk result (λ line. string_bytes line ≡ note_line text.now) }
-{
-    Ok(format!(in alloc; "backup: {text}\n")?)
-}
-
-fn bad_words_line(alloc: Global, bad: BadWords) -> Result<String, OutOfMemory>
-    ensures { IfOk result (λ line. string_bytes line ≡ note_line (bad_words_text bad)) }
-{
-    let place = bad.place;
-    let kind = text_of_kind(bad.kind);
-    Ok(format!(in alloc; "backup: bad words at {place}: {kind}\n")?)
-}
-
-fn bad_params_line(alloc: Global, kind: BadParams) -> Result<String, OutOfMemory>
-    ensures { IfOk result (λ line. string_bytes line ≡ note_line (codes "bad parameter: " ++ parameter_text kind)) }
-{
-    let number = text_of_parameter(kind);
-    Ok(format!(in alloc; "backup: bad parameter: {number}\n")?)
 }
 
 fn text_of_parameter(kind: BadParams) -> &'static str

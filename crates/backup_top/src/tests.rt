@@ -1,7 +1,8 @@
 ghost use Rattle.std.specs.Prelude.{◌≡◌, Some};
 
-use crate::cuts::cuts_of_text;
-use crate::{BadKind, BadParams, BadWords, Outcome, note_of, plain_cuts, run, status_of};
+use crate::{
+    BadKind, BadParams, BadWords, Outcome, note_of, plain_cuts, run, run_in_memory, status_of,
+};
 use candidate_map::PlainMap;
 use cut_walk::next_cut;
 use edge_traits::{EdgeFault, MemSink, MemSource, NoShelf, Sink, Source};
@@ -10,17 +11,10 @@ use sd_base::{MAX_INPUT, Params};
 use segment_scan::scan_range;
 use std::alloc::{AllocError, Global};
 use std::test::Fail;
-use std::thread::Threads;
 
 const ABC: &str = "0 3 ba7816bf8f01cfea414140de5dae2223b00361a396177a9cb410ff61f20015ad\n";
 
-// A message of FIPS 180-4.
-const TWO_BLOCKS: &[u8] = b"abcdbcdecdefdefgefghfghighijhijkijkljklmklmnlmnomnopnopq";
-
-const TWO_BLOCKS_LINE: &str =
-    "0 56 248d6a61d20638b8e5c026930c3e6039a33ce45964ff2167f6ecedd419db06c1\n";
-
-fn words(alloc: Global, texts: &[&str]) -> Result<Vec<String>, AllocError> {
+pub(crate) fn words(alloc: Global, texts: &[&str]) -> Result<Vec<String>, AllocError> {
     let mut words = Vec::new(alloc);
     for text in texts {
         words.push(String::from_str(alloc, text)?)?;
@@ -28,103 +22,127 @@ fn words(alloc: Global, texts: &[&str]) -> Result<Vec<String>, AllocError> {
     Ok(words)
 }
 
-// How a run with these words ends.
-fn outcome_of<H: Threads + Sync, R: Source, K: Sink>(
-    rt: &H,
-    alloc: Global,
-    texts: &[&str],
-    source: &mut R,
-    sink: &mut K,
-) -> Result<Outcome, AllocError> {
-    let words = words(alloc, texts)?;
-    let mut shelf = NoShelf::new();
-    let outcome = run(rt, alloc, words.as_slice(), source, sink, &mut shelf);
-    Ok(outcome)
+// t^63 + 1: a byte 1 with 47 zeros before it has the fingerprint 1, and zeros have 0.
+const SPARSE: u64 = 0x8000_0000_0000_0001;
+
+const SPARSE_WORDS: [&str; 5] = [
+    "plan",
+    "polynomial=8000000000000001",
+    "bits=13",
+    "min=64",
+    "max=256",
+];
+
+// Zeros, with a byte 1 at an index if that lies within them.
+fn zeros_with_one(alloc: Global, length: usize, index: usize) -> Result<Vec<u8>, AllocError> {
+    let mut bytes = vec![in alloc; 0u8; length]?;
+    if let Some(byte) = bytes.get_mut(index) {
+        *byte = 1;
+    }
+    Ok(bytes)
 }
 
-// Names by `sha256sum` of 64 and of 8 zero bytes.
-const ZEROS_LINES: &str = "\
+const NONE: usize = 1000;
+
+// Names by `sha256sum` of the bytes of each chunk.
+const ALL_MATCH: &str = "\
 0 64 f5a5fd42d16a20302798ef6ed309979b43003d2320d9f0e8ea9831a92759fb4b
 64 64 f5a5fd42d16a20302798ef6ed309979b43003d2320d9f0e8ea9831a92759fb4b
 128 64 f5a5fd42d16a20302798ef6ed309979b43003d2320d9f0e8ea9831a92759fb4b
 192 8 af5570f5a1810b7af78caf4bc70a660f0df51e42baf91d4de5b2328de0e83dfc
 ";
 
-// A source of these bytes that never fails and gives as much as fits.
-fn source_of(alloc: Global, bytes: &[u8]) -> Result<MemSource, AllocError> {
-    Ok(MemSource::new(
-        alloc,
-        bytes.to_vec(alloc)?,
-        Vec::new(alloc),
-        Vec::new(alloc),
-    ))
-}
+const NO_MATCH: &str = "\
+0 256 5341e6b2646979a70e57653007a1f310169421ec9bdd9f1a5648f75ade005af1
+256 256 5341e6b2646979a70e57653007a1f310169421ec9bdd9f1a5648f75ade005af1
+512 188 e37ce3b00a1f15b3de62029972345420b76313a885c6ccc6e3b5547857b3ecc6
+";
+
+const AT_100: &str = "\
+0 100 525370574635186b20fc1e1203e1453e4c3d5d17d0c66859ea18217a5b309b67
+100 200 6d9c54dee5660c46886f32d80e57e9dd0ffa57ee0cd2a762b036d9c8e0c3a33a
+";
+
+const BELOW_MINIMUM: &str = "\
+0 200 5003b4f95da4a0de53f0c49c3e3ff7fce19afb4a6d9c30a1ab1c7b252c2c09fd
+";
+
+const AT_MINIMUM: &str = "\
+0 64 90f4b39548df55ad6187a1d20d731ecee78c545b94afd16f42ef7592d99cd365
+64 136 b707241545a346265aab1ffb32ff64b55bf8f8dc1b56a46ef33ce3d15db11d33
+";
+
+const PAST_MAXIMUM: &str = "\
+0 256 5341e6b2646979a70e57653007a1f310169421ec9bdd9f1a5648f75ade005af1
+256 44 8c63f77e4a89707a17ed42972517700bc8913315f36c72fcfe833910a506cd8f
+";
 
 #[test]
-fn an_input_is_printed_as_its_chunks(rt: HostRuntime) -> Result<(), Fail> {
+fn plan_prints_the_chunks_that_the_rule_cuts(rt: HostRuntime) -> Result<(), Fail> {
     let alloc = rt.alloc();
-    let empty: &[u8] = &[];
-    for (input, lines) in [
-        (empty, ""),
-        (b"abc".as_slice(), ABC),
-        (TWO_BLOCKS, TWO_BLOCKS_LINE),
+    for (target, length, index, lines) in [
+        // An empty input has no chunk.
+        ("target=1", 0, NONE, ""),
+        // With no candidate each chunk but the last has the maximum.
+        ("target=1", 700, NONE, NO_MATCH),
+        // With a candidate at each position each chunk but the last has the minimum.
+        ("target=0", 200, NONE, ALL_MATCH),
+        // A chunk ends right after the byte that makes a candidate.
+        ("target=1", 300, 99, AT_100),
+        // A candidate below the minimum is passed over.
+        ("target=1", 200, 62, BELOW_MINIMUM),
+        // One at the minimum is a cut.
+        ("target=1", 200, 63, AT_MINIMUM),
+        // One after the maximum comes too late, and is below the minimum of the next chunk.
+        ("target=1", 300, 256, PAST_MAXIMUM),
     ] {
-        let mut source = source_of(alloc, input)?;
-        let mut sink = MemSink::new(alloc, Vec::new(alloc));
-        let outcome = outcome_of(&rt, alloc, &["plan"], &mut source, &mut sink)?;
+        let mut words = words(alloc, &SPARSE_WORDS)?;
+        words.push(String::from_str(alloc, target)?)?;
+        let input = zeros_with_one(alloc, length, index)?;
+        let (outcome, sink) = run_in_memory(&rt, alloc, words.as_slice(), input);
         assert_eq!(rt; outcome, Outcome::Done);
         assert_eq!(rt; sink.written(), lines.as_bytes());
     }
     Ok(())
 }
 
-// Names by `sha256sum` of 99 zero bytes and a byte 1, and of 200 zero bytes.
-const ONE_LINES: &str = "\
-0 100 525370574635186b20fc1e1203e1453e4c3d5d17d0c66859ea18217a5b309b67
-100 200 6d9c54dee5660c46886f32d80e57e9dd0ffa57ee0cd2a762b036d9c8e0c3a33a
-";
-
-// t^63 + 1: a byte 1 with 47 zeros before it has the fingerprint 1, and zeros have 0.
-const SPARSE: u64 = 0x8000_0000_0000_0001;
-
-// Zeros with a byte 1 at an index, where that lies within them.
-fn zeros_with_one(alloc: Global, length: usize, index: usize) -> Result<Vec<u8>, AllocError> {
-    let mut text = vec![in alloc; 0u8; length]?;
-    if index < text.len() {
-        text[index] = 1;
-    }
-    Ok(text)
+#[test]
+fn an_input_of_three_bytes_is_one_chunk(rt: HostRuntime) -> Result<(), Fail> {
+    let alloc = rt.alloc();
+    let words = words(alloc, &["plan"])?;
+    let (outcome, sink) = run_in_memory(&rt, alloc, words.as_slice(), b"abc".to_vec(alloc)?);
+    assert_eq!(rt; outcome, Outcome::Done);
+    assert_eq!(rt; sink.written(), ABC.as_bytes());
+    Ok(())
 }
 
 #[test]
-fn keys_cut_an_input_that_comes_byte_by_byte(rt: HostRuntime) -> Result<(), Fail> {
+fn an_input_that_comes_byte_by_byte_has_the_same_chunks(rt: HostRuntime) -> Result<(), Fail> {
     let alloc = rt.alloc();
-    let none = 1000;
-    for (target, length, index, lines) in [
-        ("target=0", 200, none, ZEROS_LINES),
-        ("target=1", 300, 99, ONE_LINES),
-    ] {
-        let texts = [
-            "plan",
-            "polynomial=8000000000000001",
-            target,
-            "min=64",
-            "max=256",
-        ];
-        let input = zeros_with_one(alloc, length, index)?;
-        let sizes = vec![in alloc; 1u32; 300]?;
-        let mut source = MemSource::new(alloc, input, sizes, Vec::new(alloc));
-        let mut sink = MemSink::new(alloc, Vec::new(alloc));
-        let outcome = outcome_of(&rt, alloc, &texts, &mut source, &mut sink)?;
-        assert_eq!(rt; outcome, Outcome::Done);
-        assert_eq!(rt; sink.written(), lines.as_bytes());
-    }
+    let mut words = words(alloc, &SPARSE_WORDS)?;
+    words.push(String::from_str(alloc, "target=1")?)?;
+    let input = zeros_with_one(alloc, 300, 99)?;
+    let sizes = vec![in alloc; 1u32; 300]?;
+    let mut source = MemSource::new(alloc, input, sizes, Vec::new(alloc));
+    let mut sink = MemSink::new(alloc, Vec::new(alloc));
+    let mut shelf = NoShelf::new();
+    let outcome = run(
+        &rt,
+        alloc,
+        words.as_slice(),
+        &mut source,
+        &mut sink,
+        &mut shelf,
+    );
+    assert_eq!(rt; outcome, Outcome::Done);
+    assert_eq!(rt; sink.written(), AT_100.as_bytes());
     Ok(())
 }
 
 #[test]
 fn a_read_that_fails_in_mid_stream_writes_nothing(rt: HostRuntime) -> Result<(), Fail> {
     let alloc = rt.alloc();
+    let words = words(alloc, &["plan"])?;
     let mut source = MemSource::new(
         alloc,
         b"abcd".to_vec(alloc)?,
@@ -132,9 +150,16 @@ fn a_read_that_fails_in_mid_stream_writes_nothing(rt: HostRuntime) -> Result<(),
         vec![in alloc; 2]?,
     );
     let mut sink = MemSink::new(alloc, Vec::new(alloc));
-    let outcome = outcome_of(&rt, alloc, &["plan"], &mut source, &mut sink)?;
+    let mut shelf = NoShelf::new();
+    let outcome = run(
+        &rt,
+        alloc,
+        words.as_slice(),
+        &mut source,
+        &mut sink,
+        &mut shelf,
+    );
     assert_eq!(rt; outcome, Outcome::SourceFault);
-    assert_eq!(rt; status_of(&outcome), 10);
     assert!(rt; sink.written().is_empty());
     Ok(())
 }
@@ -142,12 +167,10 @@ fn a_read_that_fails_in_mid_stream_writes_nothing(rt: HostRuntime) -> Result<(),
 #[test]
 fn an_input_of_one_byte_too_many_is_refused(rt: HostRuntime) -> Result<(), Fail> {
     let alloc = rt.alloc();
+    let words = words(alloc, &["plan"])?;
     let input = vec![in alloc; 0u8; MAX_INPUT as usize + 1]?;
-    let mut source = MemSource::new(alloc, input, Vec::new(alloc), Vec::new(alloc));
-    let mut sink = MemSink::new(alloc, Vec::new(alloc));
-    let outcome = outcome_of(&rt, alloc, &["plan"], &mut source, &mut sink)?;
+    let (outcome, sink) = run_in_memory(&rt, alloc, words.as_slice(), input);
     assert_eq!(rt; outcome, Outcome::InputTooLong);
-    assert_eq!(rt; status_of(&outcome), 8);
     assert!(rt; sink.written().is_empty());
     Ok(())
 }
@@ -164,6 +187,8 @@ impl Sink for Slow {
     ghost written = { λ sink. Some sink.bytes.items };
 
     ghost faults = { λ sink. sink.faults };
+
+    ghost faultless = { λ _. ⊥ };
 
     fn write(&mut self, bytes: &[u8]) -> Result<usize, EdgeFault> {
         if self.bytes.len() == self.room {
@@ -183,16 +208,29 @@ impl Sink for Slow {
 #[test]
 fn a_write_that_fails_writes_a_prefix_of_the_text(rt: HostRuntime) -> Result<(), Fail> {
     let alloc = rt.alloc();
+    let words = words(alloc, &["plan"])?;
     for (room, prefix) in [(0, ""), (5, "0 3 b")] {
-        let mut source = source_of(alloc, b"abc")?;
+        let mut source = MemSource::new(
+            alloc,
+            b"abc".to_vec(alloc)?,
+            Vec::new(alloc),
+            Vec::new(alloc),
+        );
         let mut sink = Slow {
             bytes: Vec::new(alloc),
             room,
             faults: 0,
         };
-        let outcome = outcome_of(&rt, alloc, &["plan"], &mut source, &mut sink)?;
+        let mut shelf = NoShelf::new();
+        let outcome = run(
+            &rt,
+            alloc,
+            words.as_slice(),
+            &mut source,
+            &mut sink,
+            &mut shelf,
+        );
         assert_eq!(rt; outcome, Outcome::SinkFault);
-        assert_eq!(rt; status_of(&outcome), 11);
         assert_eq!(rt; sink.bytes.as_slice(), prefix.as_bytes());
         assert_eq!(rt; sink.faults, 1);
     }
@@ -200,24 +238,73 @@ fn a_write_that_fails_writes_a_prefix_of_the_text(rt: HostRuntime) -> Result<(),
 }
 
 #[test]
-fn both_bodies_cut_where_the_rule_does(rt: HostRuntime) -> Result<(), Fail> {
+fn a_run_that_refuses_words_or_parameters_touches_no_device(rt: HostRuntime) -> Result<(), Fail> {
     let alloc = rt.alloc();
-    let none = 1000;
+    let bad = |kind, place| Outcome::BadWords(BadWords { kind, place });
+    let none: &[&str] = &[];
+    for (texts, refusal) in [
+        (none, bad(BadKind::Missing, 0)),
+        (&["init"], bad(BadKind::Command, 0)),
+        (&["plan", "speed=3"], bad(BadKind::Key, 1)),
+        (&["plan", "bits=13", "bits=99"], bad(BadKind::Twice, 2)),
+        (&["plan", "min=64", "bits=07"], bad(BadKind::Value, 2)),
+        (
+            &["plan", "bits=17", "min=1"],
+            Outcome::BadParams(BadParams::Bits),
+        ),
+        (
+            &["plan", "min=47", "bits=0"],
+            Outcome::BadParams(BadParams::Bits),
+        ),
+        (
+            &["plan", "polynomial=8000000000000000"],
+            Outcome::BadParams(BadParams::Polynomial),
+        ),
+        (
+            &["plan", "min=4096", "max=2048"],
+            Outcome::BadParams(BadParams::Max),
+        ),
+    ] {
+        let words = words(alloc, texts)?;
+        let mut source = MemSource::new(
+            alloc,
+            b"abc".to_vec(alloc)?,
+            Vec::new(alloc),
+            Vec::new(alloc),
+        );
+        let mut sink = MemSink::new(alloc, Vec::new(alloc));
+        let mut shelf = NoShelf::new();
+        let outcome = run(
+            &rt,
+            alloc,
+            words.as_slice(),
+            &mut source,
+            &mut sink,
+            &mut shelf,
+        );
+        assert_eq!(rt; outcome, refusal);
+        assert!(rt; sink.written().is_empty());
+        let mut into = [0u8; 4];
+        assert_eq!(rt; source.read(&mut into)?, 3);
+    }
+    Ok(())
+}
+
+#[test]
+fn plain_division_cuts_where_the_rule_does(rt: HostRuntime) -> Result<(), Fail> {
+    let alloc = rt.alloc();
     for (target, length, index, cuts) in [
-        (1, 700, none, [256, 512, 700].as_slice()),
-        (0, 200, none, &[64, 128, 192, 200]),
-        (1, 300, 99, &[100, 300]),
+        (1, 700, NONE, [256, 512, 700].as_slice()),
+        (0, 200, NONE, &[64, 128, 192, 200]),
         (1, 200, 62, &[200]),
         (1, 200, 63, &[64, 200]),
         (1, 300, 256, &[256, 300]),
-        (1, 0, none, &[]),
+        (1, 0, NONE, &[]),
     ] {
         let params = Params::new(SPARSE, 13, target, 64, 256)?;
-        let text = zeros_with_one(alloc, length, index)?;
-        assert!(rt; text.len() < 1000);
-        let fast = cuts_of_text(alloc, &params, &text)?;
-        let plain = plain_cuts(alloc, &params, &text)?;
-        assert_eq!(rt; fast.as_slice(), cuts);
+        let input = zeros_with_one(alloc, length, index)?;
+        assert!(rt; input.len() < 1000);
+        let plain = plain_cuts(alloc, &params, &input)?;
         assert_eq!(rt; plain.as_slice(), cuts);
     }
     Ok(())
@@ -227,10 +314,10 @@ fn both_bodies_cut_where_the_rule_does(rt: HostRuntime) -> Result<(), Fail> {
 fn a_cut_waits_until_it_is_decided(rt: HostRuntime) -> Result<(), Fail> {
     let alloc = rt.alloc();
     let params = Params::new(SPARSE, 13, 1, 64, 256)?;
-    let text = zeros_with_one(alloc, 300, 99)?;
-    assert!(rt; text.len() == 300);
+    let input = zeros_with_one(alloc, 300, 99)?;
+    assert!(rt; input.len() == 300);
     let mut map = PlainMap::new(alloc, 301)?;
-    scan_range(&Tables::new(&params), &params, &text, 0, 300, &mut map);
+    scan_range(&Tables::new(&params), &params, &input, 0, 300, &mut map);
     for (start, known, at_end, cut) in [
         (0, 80, false, None),
         (0, 100, false, Some(100)),
@@ -239,32 +326,6 @@ fn a_cut_waits_until_it_is_decided(rt: HostRuntime) -> Result<(), Fail> {
     ] {
         assert!(rt; start < known && known < map.bits());
         assert_eq!(rt; next_cut(&map, &params, start, known, at_end), cut);
-    }
-    Ok(())
-}
-
-#[test]
-fn the_first_number_out_of_its_range_is_named(rt: HostRuntime) -> Result<(), Fail> {
-    let alloc = rt.alloc();
-    for (texts, kind) in [
-        (["plan", "bits=17", "min=64"].as_slice(), BadParams::Bits),
-        (
-            &["plan", "polynomial=8000000000000000"],
-            BadParams::Polynomial,
-        ),
-        (&["plan", "min=4096", "max=2048"], BadParams::Max),
-        (&["plan", "min=47", "bits=0"], BadParams::Bits),
-    ] {
-        let mut source = source_of(alloc, b"abc")?;
-        let mut sink = MemSink::new(alloc, Vec::new(alloc));
-        let outcome = outcome_of(&rt, alloc, texts, &mut source, &mut sink)?;
-        assert_eq!(rt; outcome, Outcome::BadParams(kind));
-        assert_eq!(rt; status_of(&outcome), 14);
-
-        // The source and the sink are as they were.
-        let mut into = [0u8; 4];
-        assert_eq!(rt; source.read(&mut into)?, 3);
-        assert!(rt; sink.written().is_empty());
     }
     Ok(())
 }

@@ -2,7 +2,7 @@ ghost use Rattle.std.specs.Prelude.{◌≡◌};
 ghost use Rattle.sd_base.specs.Words.{command_of, params_of as params_set, plan_of};
 ghost use Rattle.backup_top.specs.Words.{texts_of};
 
-use crate::keys::{Key, Spelling, first_bad_word, setting};
+use crate::keys::{Key, Spelling, first_bad_word, value_or_default};
 use sd_base::{
     BadKind, BadWords, Command, DEFAULT_BITS, DEFAULT_MAX, DEFAULT_MIN, DEFAULT_POLYNOMIAL,
     DEFAULT_SEGMENT, DEFAULT_TARGET, DEFAULT_WORKERS, Quiet, RawParams,
@@ -11,8 +11,8 @@ use sd_base::{
 #[cfg(test)]
 mod tests;
 
-/// Reads the words of the command line, without the path of the store: the command that they name, or the first word
-/// that fails. It takes no memory. Defined by this project.
+/// Reads the words of the command line, without the path of the store: returns the command that they name, or the first
+/// word that fails. It takes no memory.
 pub fn read_words(words: &[String]) -> Result<Command, BadWords>
     ensures { result ≡ command_of (texts_of words.now) }
 {
@@ -29,7 +29,7 @@ pub fn read_words(words: &[String]) -> Result<Command, BadWords>
     }
 }
 
-// Reads the words behind `plan`.
+// Reads the words after `plan`.
 fn read_plan(words: &[String]) -> Result<Command, BadWords>
     ensures { result ≡ plan_of (texts_of words.now) }
 {
@@ -48,11 +48,11 @@ fn params_of(words: &[String]) -> RawParams
     ensures { result ≡ params_set (texts_of words.now) }
 {
     RawParams {
-        polynomial: setting(words, &POLYNOMIAL, DEFAULT_POLYNOMIAL),
-        bits: setting(words, &BITS, DEFAULT_BITS as u64) as u32,
-        target: setting(words, &TARGET, DEFAULT_TARGET as u64) as u32,
-        min: setting(words, &MIN, DEFAULT_MIN as u64) as u32,
-        max: setting(words, &MAX, DEFAULT_MAX as u64) as u32,
+        polynomial: value_or_default(words, &POLYNOMIAL, DEFAULT_POLYNOMIAL),
+        bits: value_or_default(words, &BITS, DEFAULT_BITS as u64) as u32,
+        target: value_or_default(words, &TARGET, DEFAULT_TARGET as u64) as u32,
+        min: value_or_default(words, &MIN, DEFAULT_MIN as u64) as u32,
+        max: value_or_default(words, &MAX, DEFAULT_MAX as u64) as u32,
     }
 }
 
@@ -75,21 +75,15 @@ const BITS: Key = Key {
 
 const TARGET: Key = Key {
     name: "target",
-    spelling: Spelling::Decimal,
-    least: 0,
-    greatest: u32::MAX as u64,
+    ..BITS
 };
 
 const MIN: Key = Key {
     name: "min",
-    spelling: Spelling::Decimal,
-    least: 0,
-    greatest: u32::MAX as u64,
+    ..BITS
 };
 
 const MAX: Key = Key {
     name: "max",
-    spelling: Spelling::Decimal,
-    least: 0,
-    greatest: u32::MAX as u64,
+    ..BITS
 };

@@ -1,4 +1,4 @@
--- A name that many chunks share. Defined by this project.
+-- A name that many chunks share.
 use Rattle.std.specs.Prelude.{◌≡◌, ℕ, List, [], ◌∷◌, ◌++◌, length, replicate}
 use Rattle.std.specs.Int.{w64, to_be_bytes}
 use Rattle.std.proofs.Common.{refl}

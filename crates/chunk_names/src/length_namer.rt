@@ -2,8 +2,8 @@ ghost use Rattle.chunk_names.specs.LengthNames.{length_name, length-length_name}
 
 use crate::Namer;
 
-/// Names bytes by their number alone, for tests of what is done where different chunks have one name. Defined by this
-/// project.
+/// Names bytes by their number alone: 24 zeros, and the number as eight bytes, the high byte first.
+/// It is for tests of what happens if different chunks have the same name.
 #[derive(Clone, Copy, Debug, PartialEq, Eq)]
 pub struct LengthNamer;
 

@@ -1,14 +1,17 @@
-//! The names of chunks: what a name is of, SHA-256, a name for tests that many chunks share, and a name in hexadecimal
-//! digits. It stands on `sd_base`, on `sha2` for the function and on `hex` for the digits. Names are never trusted: two
-//! chunks are the same only where their bytes are.
+//! The names of chunks. A namer makes a name of a chunk's bytes: `Sha256Namer` by SHA-256, and
+//! `LengthNamer` for tests, in which many chunks share a name. `hex_of` prints a name.
+//!
+//! Names are never trusted: two chunks are the same only if their bytes are. All rules here except
+//! SHA-256 are this project's own. The crate uses `sd_base`, `sha2` for the function and `hex` for
+//! the digits.
 #![tactic(auto)]
 
-mod digits;
+mod hex_name;
 mod length_namer;
 mod namer;
 mod sha256_namer;
 
-pub use digits::hex_of;
+pub use hex_name::hex_of;
 pub use length_namer::LengthNamer;
 pub use namer::Namer;
 pub use sha256_namer::Sha256Namer;

@@ -1,4 +1,5 @@
--- The containers of chunks are a container for each of some groups of them: the law `packing_is_by_groups`.
+-- The containers of chunks are a container for each of some groups of them: the law
+-- `packing_is_by_groups`.
 use Rattle.std.proofs.Common.{◌≡◌, inl, inr, ℕ, zero, suc, ◌+◌, ◌<◌, ◌≤◌, List, [], ◌∷◌, ◌++◌, length, get_or, refl, sym, ap, ◌∙◌, subst, append_assoc, arith, length-append}
 use Rattle.std.specs.Prelude.{All}
 use Rattle.std.specs.List.{concat, flat_map}

@@ -11,8 +11,8 @@ use Rattle.container_pack.specs.Spots.{nothing_filled, filled_by, filled_on, las
 use Rattle.container_pack.proofs.PackingLemmas.{Chunks, fill_at, packed_on-fits, packed_on-opens, filled_by-fits, filled_by-opens, reach}
 use Rattle.container_pack.proofs.SpotLemmas.{filled_by-first}
 
--- The chunk is at the end of the container of the spot, after what was there or after the header of a new container, and
--- nothing else has changed.
+-- The chunk is at the end of the container of the spot, after what was there or after the header of
+-- a new container, and nothing else has changed.
 pub record Pushed (before after : Chunks) (spot : Spot) (chunk : List ℕ) : Type 0 where
   pub near : spot.container ≤ length before
   pub no_more : length before ≤ spot.container + 1

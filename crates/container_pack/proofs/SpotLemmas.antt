@@ -1,4 +1,5 @@
--- The spots that follow from the lengths are where the chunks lie: the law `chunks_lie_at_their_spots`.
+-- The spots that follow from the lengths are where the chunks lie: the law
+-- `chunks_lie_at_their_spots`.
 use Rattle.std.proofs.Common.{◌≡◌, inl, inr, ℕ, ◌+◌, ◌<◌, ◌≤◌, List, [], ◌∷◌, ◌++◌, length, map, get_or, sym, ap, ◌∙◌, subst, arith, length-append, add-one}
 use Rattle.std.specs.Prelude.{All}
 use Rattle.std.proofs.lemmas.Bool.Decides.{leb_tells}

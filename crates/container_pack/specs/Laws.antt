@@ -7,7 +7,8 @@ use Rattle.container_pack.specs.Spots.{spots_of, LieAt}
 
 -- more chunks make containers longer or open new ones, and change no byte of the others
 abbrev pub LongerListsOnlyExtend : Type 0
-LongerListsOnlyExtend = (chunks more : List (List ℕ)) → ArePrefixes (packing chunks) (packing (chunks ++ more))
+LongerListsOnlyExtend =
+    (chunks more : List (List ℕ)) → ArePrefixes (packing chunks) (packing (chunks ++ more))
 
 -- chunks, none of them empty, lie at the spots that follow from their lengths
 abbrev pub ChunksLieAtTheirSpots : Type 0
@@ -19,4 +20,5 @@ ChunksLieAtTheirSpots =
 abbrev pub PackingIsByGroups : Type 0
 PackingIsByGroups =
     (chunks : List (List ℕ)) → All (λ chunk. length chunk ≤ MAX_CHUNK_LEN) chunks →
-    (groups : List (List (List ℕ))) × (flat_map (λ group. group) groups ≡ chunks) × IsNextFit groups (packing chunks)
+    (groups : List (List (List ℕ)))
+    × (flat_map (λ group. group) groups ≡ chunks) × IsNextFit groups (packing chunks)

@@ -8,7 +8,8 @@ use Rattle.container_pack.specs.declared.spot.Spot.{Spot}
 abbrev pub nothing_filled : Fill
 nothing_filled = record { containers = 0; used = MAX_CONTAINER }
 
--- a chunk of this length goes into the last container if it fits there, and otherwise opens the next
+-- a chunk of this length goes into the last container if it fits there, and otherwise opens the
+-- next
 abbrev pub filled_by : Fill → ℕ → Fill
 filled_by fill n =
     if nat_le (fill.used + n) MAX_CONTAINER
@@ -49,6 +50,7 @@ pub record LiesAt (containers : List (List ℕ)) (spot : Spot) (chunk : List ℕ
 -- a spot for each chunk, and each chunk at its spot
 abbrev pub LieAt : List (List ℕ) → List Spot → List (List ℕ) → Type 0
 LieAt containers [] [] = Unit {0}
-LieAt containers (spot ∷ spots) (chunk ∷ chunks) = LiesAt containers spot chunk × LieAt containers spots chunks
+LieAt containers (spot ∷ spots) (chunk ∷ chunks) =
+    LiesAt containers spot chunk × LieAt containers spots chunks
 LieAt containers [] (chunk ∷ chunks) = ⊥
 LieAt containers (spot ∷ spots) [] = ⊥

@@ -9,8 +9,9 @@ use crate::Spot;
 use edge_traits::{EdgeFault, File, Shelf};
 use std::alloc::Global;
 
-/// Reads the bytes at a spot: `length` of them, or fewer if the file ends before. Changes no file. It takes memory for
-/// `length` bytes. `Failed` is returned only if the shelf's count of faults rose.
+/// Reads the bytes at a spot: `length` of them, or fewer if the file ends before. Changes no file.
+/// It takes memory for `length` bytes. `Failed` is returned only if the shelf's count of faults
+/// rose.
 pub fn read_chunk<F: Shelf>(
     alloc: Global,
     shelf: &mut F,
@@ -18,8 +19,8 @@ pub fn read_chunk<F: Shelf>(
     spot: Spot,
     length: u32,
 ) -> Result<Vec<u8>, EdgeFault>
-    ensures bytes { IfOk result (λ chunk.
-        IsReadAt (content (F.files shelf.old) (Container generation spot.container)) spot.offset length chunk.items) }
+    ensures bytes { IfOk result (λ chunk. IsReadAt
+        (content (F.files shelf.old) (Container generation spot.container)) spot.offset length chunk.items) }
     ensures stored { (stored : List ℕ) → IsStored (F.files shelf.old) generation spot length stored
         → IfOk result (λ chunk. IfSome
         (content (F.files shelf.old) (Container generation spot.container)) (λ _. chunk.items ≡ stored)) }

@@ -5,8 +5,8 @@ ghost use Rattle.container_pack.specs.Spots.{nothing_filled, filled_by, last_spo
 use crate::Spot;
 use sd_base::{CONTAINER_HEADER, MAX_CHUNK_LEN, MAX_CONTAINER};
 
-/// How many containers there are, and the bytes of the last of them. If there is none, the next chunk opens one, as after
-/// a full one.
+/// How many containers there are, and the bytes of the last of them. If there is none, the next
+/// chunk opens one, as after a full one.
 #[derive(Clone, Copy)]
 pub(crate) struct Fill {
     pub(crate) containers: u32,

@@ -1,10 +1,11 @@
-//! Chunks in containers: files of at most 4 MiB that begin with a header and hold the bytes of chunks in order, without
-//! gaps.
+//! Chunks in containers: files of at most 4 MiB that begin with a header and hold the bytes of
+//! chunks in order, without gaps.
 //!
-//! `places` returns where chunks lie by their lengths, a `Packer` appends chunk after chunk through a shelf, and
-//! `read_chunk` reads one back. `packing` of `sd_base` is the definition of the containers of chunks; the shelf is that of
-//! `edge_traits`. All rules here are this project's own, except that containers are filled by next fit, a heuristic of bin
-//! packing (D. S. Johnson, Near-optimal bin packing algorithms, 1973).
+//! `places` returns where chunks lie by their lengths, a `Packer` appends chunk after chunk through
+//! a shelf, and `read_chunk` reads one back. `packing` of `sd_base` is the definition of the
+//! containers of chunks; the shelf is that of `edge_traits`. All rules here are this project's own,
+//! except that containers are filled by next fit, a heuristic of bin packing (D. S. Johnson,
+//! Near-optimal bin packing algorithms, 1973).
 #![tactic(auto)]
 
 mod chunk_reader;

@@ -14,8 +14,8 @@ use crate::fill::Fill;
 use edge_traits::{EdgeFault, File, Shelf};
 use sd_base::{CONTAINER_HEADER, MAX_CHUNK_LEN, MAX_CHUNKS};
 
-/// Appends chunks to the containers of a generation, after the chunks that are there already. It knows those by their
-/// lengths alone.
+/// Appends chunks to the containers of a generation, after the chunks that are there already. It
+/// knows those by their lengths alone.
 #[derive(Drop)]
 pub struct Packer {
     generation: u32,
@@ -30,7 +30,7 @@ pub struct Packer {
 }
 
 impl Packer {
-    ghost use Rattle.container_pack.specs.Packer.{generation_of, chunk_count, next_spot, next_file, OpensContainer, IsBehind, StandsBehind, IsUnflushed};
+    ghost use Rattle.container_pack.specs.Packer.{generation_of, chunk_count, file_at, next_spot, next_file, OpensContainer, IsBehind, StandsBehind, IsUnflushed};
 
     /// A packer after chunks of these lengths. It needs no memory and has touched no file.
     pub fn resume(generation: u32, lengths: &[u32]) -> Self
@@ -59,13 +59,14 @@ impl Packer {
         }
     }
 
-    /// Appends a chunk after the others, and returns its spot: in the last container if it fits there, otherwise in a new
-    /// one. Every append cuts the file first, the last container to the bytes before the spot and a new one to nothing,
-    /// so a tail never comes between two chunks. A new container gets its header.
+    /// Appends a chunk after the others, and returns its spot: in the last container if it fits
+    /// there, otherwise in a new one. Every append cuts the file first, the last container to the
+    /// bytes before the spot and a new one to nothing, so a tail never comes between two chunks. A
+    /// new container gets its header.
     ///
-    /// After a refusal the packer is as it was and may be used again, and the earlier chunks are where they were. The file
-    /// that the refused append changed may be loose, and the next `flush` need not flush it. `Failed` is returned only if
-    /// the shelf's count of faults rose.
+    /// After a refusal the packer is as it was and may be used again, and the earlier chunks are
+    /// where they were. The file that the refused append changed may be loose, and the next `flush`
+    /// need not flush it. `Failed` is returned only if the shelf's count of faults rose.
     pub fn append_chunk<F: Shelf>(&mut self, shelf: &mut F, chunk: &[u8]) -> Result<Spot, EdgeFault>
         requires not_empty { 1 ≤ length chunk.now }
         requires bounded { length chunk.now ≤ MAX_CHUNK_LEN }
@@ -75,29 +76,35 @@ impl Packer {
         ensures count { OnOk result (chunk_count self.new ≡ chunk_count self.old + 1) }
         ensures refused { OnErr result (self.new ≡ self.old) }
         ensures spot { IfOk result (λ spot. spot ≡ next_spot self.old (length chunk.now)) }
-        ensures placed { (lengths : List ℕ) → IsBehind self.old lengths
-            → IfOk result (λ spot. spots_of (lengths ++ length chunk.now ∷ []) ≡ spots_of lengths ++ spot ∷ []) }
+        ensures placed { (lengths : List ℕ) → IsBehind self.old lengths → IfOk result (λ spot.
+            spots_of (lengths ++ length chunk.now ∷ []) ≡ spots_of lengths ++ spot ∷ []) }
         ensures behind { (lengths : List ℕ) → IsBehind self.old lengths
             → OnOk result (IsBehind self.new (lengths ++ length chunk.now ∷ [])) }
         ensures lies { (chunks : List (List ℕ)) → IsBehind self.old (map length chunks)
             → IfOk result (λ spot. LiesAt (packing (chunks ++ chunk.now ∷ [])) spot chunk.now) }
 
-        // Whatever the files hold: a container that is opened is its header and the chunk, and the open one keeps what
-        // is before the spot.
-        ensures opened { let n = length chunk.now in let at = next_spot self.old n in OpensContainer self.old n
-            → OnOk result (HasOnly (content (F.files shelf.new) (next_file self.old n)) (header_of at.container ++ chunk.now)) }
-        ensures at_spot { let n = length chunk.now in let at = next_spot self.old n in ¬ OpensContainer self.old n
-            → OnOk result (AppendedAt (next_file self.old n) at.offset chunk.now (F.files shelf.old) (F.files shelf.new)) }
-        ensures before_spot { let n = length chunk.now in let at = next_spot self.old n in ¬ OpensContainer self.old n
-            → OnErr result (KeepsFront (next_file self.old n) at.offset (F.files shelf.old) (F.files shelf.new)) }
-        ensures other_files { ChangesOnly (next_file self.old (length chunk.now)) (F.files shelf.old) (F.files shelf.new) }
+        // Whatever the files hold: a container that is opened is its header and the chunk, and the
+        // open one keeps what is before the spot.
+        ensures opened { let n = length chunk.now in let at = next_spot self.old n in
+            OpensContainer self.old n → OnOk result
+            (HasOnly (content (F.files shelf.new) (next_file self.old n)) (header_of at.container ++ chunk.now)) }
+        ensures at_spot { let n = length chunk.now in let at = next_spot self.old n in
+            ¬ OpensContainer self.old n → OnOk result
+            (AppendedAt (next_file self.old n) at.offset chunk.now (F.files shelf.old) (F.files shelf.new)) }
+        ensures before_spot { let n = length chunk.now in let at = next_spot self.old n in
+            ¬ OpensContainer self.old n → OnErr result
+            (KeepsFront (next_file self.old n) at.offset (F.files shelf.old) (F.files shelf.new)) }
+        ensures other_files { ChangesOnly (next_file self.old (length chunk.now))
+            (F.files shelf.old) (F.files shelf.new) }
 
-        // If the containers begin with the packing of the chunks before, they begin afterwards with that of these and the
-        // new one, which ends its file; after a refusal, with that of the chunks before.
+        // If the containers begin with the packing of the chunks before, they begin afterwards with
+        // that of these and the new one, which ends its file; after a refusal, with that of the
+        // chunks before.
         ensures packed { (chunks : List (List ℕ)) → StandsBehind self.old (F.files shelf.old) chunks
             → OnOk result (StandsBehind self.new (F.files shelf.new) (chunks ++ chunk.now ∷ [])) }
         ensures ends { (chunks : List (List ℕ)) → StandsBehind self.old (F.files shelf.old) chunks
-            → IfOk result (λ spot. HasOnly (content (F.files shelf.new) (Container (generation_of self.old) spot.container))
+            → IfOk result (λ spot. HasOnly
+            (content (F.files shelf.new) (Container (generation_of self.old) spot.container))
             (slice_index_or (packing (chunks ++ chunk.now ∷ [])) spot.container [])) }
         ensures still_stands { (chunks : List (List ℕ)) → StandsBehind self.old (F.files shelf.old) chunks
             → OnErr result (StandsBehind self.new (F.files shelf.new) chunks) }
@@ -106,7 +113,8 @@ impl Packer {
 
         ensures unflushed { (k : ℕ) → IfOk result (λ spot.
             IsUnflushed self.new k ↔ (IsUnflushed self.old k ⊎ (k ≡ spot.container))) }
-        ensures may_loosen { MayLoosen (next_file self.old (length chunk.now)) (F.loose shelf.old) (F.loose shelf.new) }
+        ensures may_loosen { MayLoosen (next_file self.old (length chunk.now))
+            (F.loose shelf.old) (F.loose shelf.new) }
 
         ensures failed { IsErrOf result EdgeFault.Failed → Rose (F.faults shelf.old) (F.faults shelf.new) }
         ensures never_falls { F.faults shelf.old ≤ F.faults shelf.new }
@@ -125,15 +133,17 @@ impl Packer {
         Ok(spot)
     }
 
-    /// Flushes each container that was appended to since the last flush. After a refusal some of them may be flushed, and
-    /// the packer is as it was. `Failed` is returned only if the shelf's count of faults rose.
+    /// Flushes each container that was appended to since the last flush. After a refusal some of
+    /// them may be flushed, and the packer is as it was. `Failed` is returned only if the shelf's
+    /// count of faults rose.
     pub fn flush<F: Shelf>(&mut self, shelf: &mut F) -> Result<(), EdgeFault>
         ensures flushed { (k : ℕ) → IsUnflushed self.old k
             → OnOk result (F.loose shelf.new (Container (generation_of self.old) k) ≡ false) }
         ensures none_left { (k : ℕ) → OnOk result (¬ IsUnflushed self.new k) }
         ensures refused { OnErr result (self.new ≡ self.old) }
         ensures loosens_none { (f : File) → F.loose shelf.old f ≡ false → F.loose shelf.new f ≡ false }
-        ensures other_loose { (f : File) → ((k : ℕ) → IsUnflushed self.old k → f ≢ Container (generation_of self.old) k)
+        ensures other_loose { (f : File)
+            → ((k : ℕ) → IsUnflushed self.old k → f ≢ Container (generation_of self.old) k)
             → F.loose shelf.new f ≡ F.loose shelf.old f }
 
         ensures no_call { ((k : ℕ) → ¬ IsUnflushed self.old k) → (shelf.new ≡ shelf.old) × IsOk result }
@@ -169,20 +179,18 @@ impl Packer {
         self.fill.with_chunk(length).last_spot(length)
     }
 
-    /// Leaves in the file of a spot the bytes before the spot alone. If the spot is in a new container, these are its
-    /// header.
+    /// Leaves in the file of a spot the bytes before the spot alone. If the spot is in a new
+    /// container, these are its header.
     fn make_ready<F: Shelf>(&self, shelf: &mut F, spot: Spot) -> Result<(), EdgeFault>
         ensures opened { spot.container ≡ self.now.fill.containers → OnOk result
-            (HasOnly (content (F.files shelf.new) (Container (generation_of self.now) spot.container)) (header_of spot.container)) }
+            (HasOnly (content (F.files shelf.new) (file_at self.now spot)) (header_of spot.container)) }
         ensures cut { spot.container ≢ self.now.fill.containers → OnOk result
-            (CutTo (Container (generation_of self.now) spot.container) spot.offset (F.files shelf.old) (F.files shelf.new)) }
+            (CutTo (file_at self.now spot) spot.offset (F.files shelf.old) (F.files shelf.new)) }
         ensures before_spot { spot.container ≢ self.now.fill.containers → OnErr result
-            (KeepsFront (Container (generation_of self.now) spot.container) spot.offset (F.files shelf.old) (F.files shelf.new)) }
+            (KeepsFront (file_at self.now spot) spot.offset (F.files shelf.old) (F.files shelf.new)) }
 
-        ensures other_files { ChangesOnly (Container (generation_of self.now) spot.container)
-            (F.files shelf.old) (F.files shelf.new) }
-        ensures may_loosen { MayLoosen (Container (generation_of self.now) spot.container)
-            (F.loose shelf.old) (F.loose shelf.new) }
+        ensures other_files { ChangesOnly (file_at self.now spot) (F.files shelf.old) (F.files shelf.new) }
+        ensures may_loosen { MayLoosen (file_at self.now spot) (F.loose shelf.old) (F.loose shelf.new) }
 
         ensures failed { IsErrOf result EdgeFault.Failed → Rose (F.faults shelf.old) (F.faults shelf.new) }
         ensures never_falls { F.faults shelf.old ≤ F.faults shelf.new }

@@ -19,8 +19,8 @@ fn shelf_with(rt: &HostRuntime, failing: &[ShelfFail]) -> Result<MemShelf, Alloc
     Ok(MemShelf::new(rt.alloc(), failing))
 }
 
-/// Appends the chunks `d` and `ef` after `abc` and flushes. Returns the contents that the container must begin with then,
-/// and the fault.
+/// Appends the chunks `d` and `ef` after `abc` and flushes. Returns the contents that the container
+/// must begin with then, and the fault.
 fn append_two(shelf: &mut MemShelf) -> (&'static [u8], Option<EdgeFault>) {
     let mut packer = Packer::resume(0, &[3]);
     if let Err(fault) = packer.append_chunk(shelf, b"d") {
@@ -32,7 +32,8 @@ fn append_two(shelf: &mut MemShelf) -> (&'static [u8], Option<EdgeFault>) {
     (THREE_CHUNKS, packer.flush(shelf).err())
 }
 
-/// Appends `abc` to no others, and once more by the same packer if that is refused. Returns the fault and the spot.
+/// Appends `abc` to no others, and once more by the same packer if that is refused. Returns the
+/// fault and the spot.
 fn append_again(shelf: &mut MemShelf) -> (Option<EdgeFault>, Option<Spot>) {
     let mut packer = Packer::resume(0, &[]);
     match packer.append_chunk(shelf, b"abc") {

@@ -8,12 +8,14 @@ ghost use Rattle.cut_walk.specs.Walk.{IsCutOn, IsUndecided};
 use candidate_map::PlainMap;
 use sd_base::Params;
 
-/// The next cut from `start`, where `known` bytes of the input are known and `at_end` says that these are all: the least
-/// position of the map at which the chunk has the minimum and not more than the maximum; where there is none, the
-/// maximum or the end of the input. None where that is still open. All are positions in bytes. It takes no memory.
+/// The next cut from `start`. The first `known` bytes of the input are known, and `at_end` says
+/// that these are all. The cut is the least position of the map at which the chunk has at least the
+/// minimum and at most the maximum. If there is none, it is `start` and the maximum, or the end of
+/// the input if that comes first. It returns None if that is still open. Positions count bytes. It
+/// takes no memory.
 ///
-/// The map and the walk are the second stage of SS-CDC (SYSTOR 2019), the minimum and the maximum those of LBFS (SOSP
-/// 2001, section 3.1).
+/// The map and the walk are the second stage of SS-CDC (SYSTOR 2019). The minimum and the maximum
+/// are those of LBFS (SOSP 2001, section 3.1).
 pub fn next_cut(
     map: &PlainMap,
     params: &Params,
@@ -26,9 +28,10 @@ pub fn next_cut(
 
     // By the map alone.
     ensures cut { IfSome result (IsCutOn (numbers_of params.now) map.now known at_end start) }
-    ensures none { IsNone result ↔ ((at_end ≡ false) × IsUndecided (numbers_of params.now) map.now known start) }
+    ensures none { IsNone result
+        ↔ ((at_end ≡ false) × IsUndecided (numbers_of params.now) map.now known start) }
 
-    // Where the map has the candidates of an input, which is known to its end or in part.
+    // If the map has the candidates of an input, which is known to its end or in part.
     ensures of_whole_input { (input : List ℕ) → HoldsCandidates (numbers_of params.now) input map.now known
         → at_end ≡ true → known ≡ length input
         → result ≡ Some (next_cut (numbers_of params.now) input start) }
@@ -38,7 +41,7 @@ pub fn next_cut(
 {
     let left = known - start;
     let furthest = start + params.max.min(left);
-    if let Some(candidate) = first_end(map, params, start, furthest) {
+    if let Some(candidate) = first_long_enough(map, params, start, furthest) {
         return Some(candidate);
     }
     if at_end || params.max <= left {
@@ -48,13 +51,17 @@ pub fn next_cut(
     }
 }
 
-/// The first position of the map at which a chunk from `start` is long enough, where it is not past the furthest.
-fn first_end(map: &PlainMap, params: &Params, start: u32, furthest: u32) -> Option<u32>
+/// The first position of the map at which a chunk from `start` is long enough, if it is not past
+/// `furthest`.
+fn first_long_enough(map: &PlainMap, params: &Params, start: u32, furthest: u32) -> Option<u32>
     ensures first { IfSome result (IsFirstFrom map.now (start + params.now.min)) }
     ensures within { IfSome result (λ p. p ≤ furthest) }
     ensures none { IfNone result ((p : ℕ) → start + params.now.min ≤ p → p ≤ furthest → ¬ Has map.now p) }
 {
-    // Where the sum passes `u32` there is no such position.
+    // If the sum passes `u32`, there is no such position.
     let earliest = start.checked_add(params.min)?;
     map.next_within(earliest, furthest)
 }
+
+#[cfg(test)]
+mod tests;

@@ -1,10 +1,10 @@
--- Bytes taken from a source and given to a sink, call after call.
+-- Bytes that are taken from a source or written to a sink, call after call.
 use Rattle.std.proofs.Common.{◌≡◌, ℕ, ◌+◌, ◌-◌, ◌<◌, List, [], ◌++◌, length, take, drop, sym, ◌∙◌, ap, append_assoc, subst, arith, min, take-append-drop}
 use Rattle.std.specs.Prelude.{Option, Some, None, option_map}
 use Rattle.std.proofs.lemmas.List.{drop-drop, nil_from_length, take_rest}
 use Rattle.std.proofs.Math.Seq.{take-add}
 use Rattle.edge_traits.specs.Sink.{Appends}
-use Rattle.edge_traits.specs.Source.{Takes}
+use Rattle.edge_traits.specs.Source.{Consumes}
 
 -- two pieces are appended in turn
 pub appends_on : (a b c : Option (List ℕ)) (x y : List ℕ) → Appends a b x → Appends b c y → Appends a c (x ++ y)
@@ -18,17 +18,17 @@ appends_more a b c n k piece p q =
     rw (take-add n k piece) (appends_on a b c (take n piece) (take k (drop n piece)) p rest)
 
 -- two pieces are taken in turn
-pub takes_on : (a b c : Option (List ℕ)) (x y : List ℕ) → Takes a b x → Takes b c y → Takes a c (x ++ y)
-takes_on a b None x y p q = p ∙ ap (λ (o : Option (List ℕ)). option_map (λ rest. x ++ rest) o) q
-takes_on a b (Some rest) x y p q = p ∙ ap (λ (o : Option (List ℕ)). option_map (λ rest. x ++ rest) o) q ∙ ap Some (sym (append_assoc x y rest))
+pub consumes_on : (a b c : Option (List ℕ)) (x y : List ℕ) → Consumes a b x → Consumes b c y → Consumes a c (x ++ y)
+consumes_on a b None x y p q = p ∙ ap (λ (o : Option (List ℕ)). option_map (λ rest. x ++ rest) o) q
+consumes_on a b (Some rest) x y p q = p ∙ ap (λ (o : Option (List ℕ)). option_map (λ rest. x ++ rest) o) q ∙ ap Some (sym (append_assoc x y rest))
 
--- the front of a buffer stays in a call that puts bytes behind it
-pub takes_more : (a b c : Option (List ℕ)) (n k : ℕ) (before after : List ℕ) → take n after ≡ take n before → Takes a b (take n before) → Takes b c (take k (drop n after)) → Takes a c (take (n + k) after)
-takes_more a b c n k before after kept p q =
-    let first : Takes a b (take n after) = subst (λ (l : List ℕ). Takes a b l) (sym kept) p in
-    rw (take-add n k after) (takes_on a b c (take n after) (take k (drop n after)) first q)
+-- a call that puts bytes after the front of a buffer keeps this front
+pub consumes_more : (a b c : Option (List ℕ)) (n k : ℕ) (before after : List ℕ) → take n after ≡ take n before → Consumes a b (take n before) → Consumes b c (take k (drop n after)) → Consumes a c (take (n + k) after)
+consumes_more a b c n k before after kept p q =
+    let first : Consumes a b (take n after) = subst (λ (l : List ℕ). Consumes a b l) (sym kept) p in
+    rw (take-add n k after) (consumes_on a b c (take n after) (take k (drop n after)) first q)
 
--- a read gives the front of what is left
+-- a read takes the front of what is left
 pub front_given : (bytes all into : List ℕ) (at k : ℕ) → all ≡ bytes → take k into ≡ take k (take (length all - at) (drop at all)) → drop at bytes ≡ take k into ++ drop (at + k) bytes
 front_given bytes all into at k same given =
     let here : take k into ≡ take k (take (length bytes - at) (drop at bytes)) =
@@ -36,7 +36,7 @@ front_given bytes all into at k same given =
     let front : take k into ≡ take k (drop at bytes) = here ∙ ap (λ (l : List ℕ). take k l) (take_rest bytes at) in
     sym (ap (λ (l : List ℕ). l ++ drop (at + k) bytes) front ∙ ap (λ (l : List ℕ). take k (drop at bytes) ++ l) (sym (drop-drop k at bytes)) ∙ take-append-drop k (drop at bytes))
 
--- nothing is left where there was room and nothing was given
+-- nothing is left if there was room and no byte was taken
 pub none_left : (bytes all : List ℕ) (at room k : ℕ) → all ≡ bytes → k ≡ min (length (take (length all - at) (drop at all))) room → 0 < room → k ≡ 0 → drop at bytes ≡ []
 none_left bytes all at room k same count some none =
     nil_from_length (drop at bytes)

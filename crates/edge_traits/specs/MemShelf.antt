@@ -1,27 +1,27 @@
--- What a shelf in memory stands for. Defined by this project.
+-- What contracts know of a shelf in memory.
 use Rattle.std.specs.Prelude.{◌≡◌, ℕ, List, Bool, Option, Result, IsErrOf, OnOk, IsSome, IsNone}
 use Rattle.edge_traits.specs.declared.fault.EdgeFault.{EdgeFault}
 use Rattle.edge_traits.specs.declared.fault.EdgeFault.TheVariants.{Failed}
 use Rattle.edge_traits.specs.declared.mem_shelf.MemShelf.{MemShelf}
 use Rattle.sd_base.specs.declared.file.File.{File}
 use Rattle.edge_traits.specs.declared.shelf_plan.ShelfFail.{ShelfFail}
-use Rattle.edge_traits.specs.Entries.{bytes_in, loose_in}
+use Rattle.edge_traits.specs.Entries.{bytes_of_file, is_loose_file}
 use Rattle.edge_traits.specs.Faults.{counted_once_more, CountsFailed}
 use Rattle.edge_traits.specs.ShelfPlan.{fail_at, ArePast}
 
--- the bytes of each file; one that is not there counts as empty
+-- the bytes of each file; one that does not exist counts as empty
 abbrev pub files_of_shelf : MemShelf → File → List ℕ
-files_of_shelf shelf = bytes_in shelf.entries.items
+files_of_shelf shelf = bytes_of_file shelf.entries.items
 
--- the files that were appended to or cut since their last flush, or since they were put
+-- whether a file was appended to or cut since it was last flushed or put
 abbrev pub loose_of_shelf : MemShelf → File → Bool
-loose_of_shelf shelf = loose_in shelf.entries.items
+loose_of_shelf shelf = is_loose_file shelf.entries.items
 
 -- the calls that fail
 abbrev pub failing_calls : MemShelf → List ShelfFail
 failing_calls shelf = shelf.plan.failing.items
 
--- how many calls there have been, or the last number of 64 bits
+-- how many calls there have been, at most 2^64 - 1
 abbrev pub shelf_calls : MemShelf → ℕ
 shelf_calls shelf = shelf.plan.tally.calls
 
@@ -29,7 +29,7 @@ shelf_calls shelf = shelf.plan.tally.calls
 abbrev pub shelf_faults : MemShelf → ℕ
 shelf_faults shelf = shelf.plan.tally.faults
 
--- what the next call keeps, where it is to fail
+-- what the next call keeps, if it is to fail
 abbrev pub kept_next : MemShelf → Option ℕ
 kept_next shelf = fail_at (failing_calls shelf) (shelf_calls shelf)
 
@@ -37,7 +37,7 @@ kept_next shelf = fail_at (failing_calls shelf) (shelf_calls shelf)
 abbrev pub IsFaultlessShelf : MemShelf → Type 0
 IsFaultlessShelf shelf = ArePast (failing_calls shelf) (shelf_calls shelf)
 
--- The call has its number, and it failed only where it was to fail; where it was to fail it was refused.
+-- The call was counted. It failed only if it was to fail, and if it was to fail it was refused.
 pub record IsCounted {T : Type 0} (result : Result T EdgeFault) (before after : MemShelf) : Type 0 where
   pub fails : IsErrOf result Failed → IsSome (kept_next before)
   pub ok : OnOk result (IsNone (kept_next before))

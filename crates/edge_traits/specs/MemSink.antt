@@ -1,4 +1,4 @@
--- What a sink in memory stands for. Defined by this project.
+-- What contracts know of a sink in memory.
 use Rattle.std.specs.Prelude.{ℕ, ◌<◌, List, All}
 use Rattle.edge_traits.specs.declared.mem_sink.MemSink.{MemSink}
 
@@ -10,7 +10,7 @@ written_of sink = sink.bytes.items
 abbrev pub failing_writes : MemSink → List ℕ
 failing_writes sink = sink.plan.failing.items
 
--- how many writes there have been, or the last number of 64 bits
+-- how many writes there have been, at most 2^64 - 1
 abbrev pub write_calls : MemSink → ℕ
 write_calls sink = sink.plan.tally.calls
 

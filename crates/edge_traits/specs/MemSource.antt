@@ -1,4 +1,4 @@
--- What a source in memory stands for. Defined by this project.
+-- What contracts know of a source in memory.
 use Rattle.std.specs.Prelude.{ℕ, ◌<◌, List, drop, All}
 use Rattle.edge_traits.specs.declared.mem_source.MemSource.{MemSource}
 
@@ -14,7 +14,7 @@ sizes_of source = drop source.read_count source.sizes.items
 abbrev pub failing_reads : MemSource → List ℕ
 failing_reads source = source.plan.failing.items
 
--- how many reads there have been, or the last number of 64 bits
+-- how many reads there have been, at most 2^64 - 1
 abbrev pub read_calls : MemSource → ℕ
 read_calls source = source.plan.tally.calls
 

@@ -1,8 +1,8 @@
--- What a fault of a source means to who reads the whole of it. Defined by this project.
+-- What a fault of a source becomes when its whole input is read.
 use Rattle.edge_traits.specs.declared.fault.EdgeFault.{EdgeFault}
 use Rattle.edge_traits.specs.declared.fault.EdgeFault.TheVariants as edge
-use Rattle.edge_traits.specs.declared.reading.ReadFault.{ReadFault}
-use Rattle.edge_traits.specs.declared.reading.ReadFault.TheVariants as read
+use Rattle.edge_traits.specs.declared.source_reader.ReadFault.{ReadFault}
+use Rattle.edge_traits.specs.declared.source_reader.ReadFault.TheVariants as read
 
 abbrev pub read_fault_of : EdgeFault → ReadFault
 read_fault_of edge.Failed = read.SourceFault

@@ -5,13 +5,12 @@ ghost use Rattle.edge_traits.specs.declared.fault.EdgeFault.TheVariants.{OutOfMe
 use sd_base::OutOfMemory;
 use std::alloc::{AllocError, AllocFailed};
 
-/// Why a source, a sink or a shelf refused a call. What a refused call left is said at the call. Defined by this
-/// project.
+/// Why a source, a sink or a shelf refused a call. Each call says what it leaves after a refusal.
 #[derive(Clone, Copy, Debug, PartialEq, Eq)]
 pub enum EdgeFault {
-    /// The device failed. The object's own count of faults rose in the call.
+    /// The device failed. Its count of faults rose in the call.
     Failed,
-    /// There was no memory for the call.
+    /// Memory ran out in the call.
     OutOfMemory,
 }
 

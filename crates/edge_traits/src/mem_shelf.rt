@@ -1,16 +1,18 @@
-//! A shelf that keeps its files in memory, and fails where it is told to.
+//! A shelf in memory, which fails at planned calls.
 ghost use Rattle.std.specs.Prelude.{◌≡◌, ◌≢◌, ◌≤◌, ◌++◌, ℕ, [], length, take, drop, true, false, Some, IfOk, IfSome, OnOk, OnErr, IsErrOf, IsNone, if◌then◌else◌, ◌==◌};
 ghost use Rattle.sd_base.specs.declared.file.File.{File};
 ghost use Rattle.edge_traits.specs.Entries.{SameEntries, ChangesEntry};
 
+use crate::copy::copy_front;
 use crate::entries::{self, Entry};
 use crate::shelf_plan::ShelfPlan;
 use crate::{EdgeFault, File, Shelf, ShelfFail};
 use sd_base::OutOfMemory;
 use std::alloc::Global;
 
-/// A shelf in memory. It tells its files. All calls of `Shelf` on it are numbered together, from 0. A call that is to fail
-/// and lacks the memory for what it leaves answers `OutOfMemory` and counts no fault. Defined by this project.
+/// A shelf in memory. It is observable. All calls of `Shelf` on it are numbered together, from 0. A
+/// call that is to fail, and has no memory for what it keeps, returns `OutOfMemory` and counts no
+/// fault.
 #[derive(Drop)]
 pub struct MemShelf {
     alloc: Global,
@@ -21,7 +23,8 @@ pub struct MemShelf {
 impl MemShelf {
     ghost use Rattle.edge_traits.specs.MemShelf.{files_of_shelf, loose_of_shelf, failing_calls, shelf_calls, shelf_faults, IsFaultlessShelf};
 
-    /// A shelf with no files. The calls whose numbers stand in `failing` fail, each by the first entry of its number.
+    /// A shelf with no files. The calls whose numbers are in `failing` fail. If a number is there
+    /// more than once, the first decides.
     pub fn new(alloc: Global, failing: Vec<ShelfFail>) -> Self
         ensures files { (f : File) → files_of_shelf result f ≡ [] }
         ensures loose { (f : File) → loose_of_shelf result f ≡ false }
@@ -37,36 +40,39 @@ impl MemShelf {
         }
     }
 
-    /// The bytes of a file. This is no call of `Shelf`, and it has no number.
+    /// The bytes of a file. This is no call of `Shelf`, so it is not counted.
     pub fn file(&self, file: File) -> &[u8]
         ensures { result.now ≡ files_of_shelf self.now file }
     {
         entries::bytes_of(&self.entries, file)
     }
 
-    /// Whether a file was appended to or cut since its last flush, or since it was put. It has no number.
+    /// Whether a file was appended to or cut since it was last flushed or put. Not counted.
     pub fn is_loose(&self, file: File) -> bool
         ensures { result ≡ loose_of_shelf self.now file }
     {
         entries::is_loose(&self.entries, file)
     }
 
-    /// Makes these the bytes of a file, which isn't loose then. It has no number. After a refusal nothing has changed.
+    /// Makes these the bytes of a file, which is then not loose. Not counted. It fails only if
+    /// memory runs out, and then nothing has changed.
     pub fn put_file(&mut self, file: File, bytes: &[u8]) -> Result<(), OutOfMemory>
         ensures put { OnOk result (files_of_shelf self.new file ≡ bytes.now) }
         ensures not_loose { OnOk result (loose_of_shelf self.new file ≡ false) }
 
         ensures other_files { (f : File) → f ≢ file → files_of_shelf self.new f ≡ files_of_shelf self.old f }
         ensures other_loose { (f : File) → f ≢ file → loose_of_shelf self.new f ≡ loose_of_shelf self.old f }
-        ensures refused_files { OnErr result ((f : File) → files_of_shelf self.new f ≡ files_of_shelf self.old f) }
-        ensures refused_loose { OnErr result ((f : File) → loose_of_shelf self.new f ≡ loose_of_shelf self.old f) }
+        ensures refused_files { OnErr result
+            ((f : File) → files_of_shelf self.new f ≡ files_of_shelf self.old f) }
+        ensures refused_loose { OnErr result
+            ((f : File) → loose_of_shelf self.new f ≡ loose_of_shelf self.old f) }
 
         ensures failing { failing_calls self.new ≡ failing_calls self.old }
         ensures calls { shelf_calls self.new ≡ shelf_calls self.old }
         ensures faults { shelf_faults self.new ≡ shelf_faults self.old }
         ensures stays_faultless { IsFaultlessShelf self.old → IsFaultlessShelf self.new }
     {
-        entries::put(self.alloc, &mut self.entries, file, bytes)
+        entries::set_bytes(self.alloc, &mut self.entries, file, bytes)
     }
 }
 
@@ -85,9 +91,9 @@ impl Shelf for MemShelf {
         ensures length { IfOk result (λ n. n ≡ length (files_of_shelf self.old file)) }
         ensures untouched { IsUntouched self.old self.new }
         ensures counted { IsCounted result self.old self.new }
-        ensures only_fails { OnErr result (IsErrOf result EdgeFault.Failed) }
+        ensures only_error { OnErr result (IsErrOf result EdgeFault.Failed) }
     {
-        self.plan.next()?;
+        self.plan.count_call()?;
         Ok(entries::bytes_of(&self.entries, file).len() as u64)
     }
 
@@ -97,14 +103,17 @@ impl Shelf for MemShelf {
             ≡ take (length into.new) (drop at (files_of_shelf self.old file))) }
         ensures untouched { IsUntouched self.old self.new }
         ensures counted { IsCounted result self.old self.new }
-        ensures only_fails { OnErr result (IsErrOf result EdgeFault.Failed) }
+        ensures only_error { OnErr result (IsErrOf result EdgeFault.Failed) }
     {
-        self.plan.next()?;
-        Ok(copy_from(entries::bytes_of(&self.entries, file), at as usize, into))
+        self.plan.count_call()?;
+        let bytes = entries::bytes_of(&self.entries, file);
+        let room = into.len();
+        Ok(copy_front(&bytes[bytes.len().min(at as usize)..], into, room))
     }
 
     fn append(&mut self, file: File, bytes: &[u8]) -> Result<(), EdgeFault>
-        ensures appended { OnOk result (files_of_shelf self.new file ≡ files_of_shelf self.old file ++ bytes.now) }
+        ensures appended { OnOk result
+            (files_of_shelf self.new file ≡ files_of_shelf self.old file ++ bytes.now) }
         ensures kept { IsErrOf result EdgeFault.Failed → IfSome (kept_next self.old) (λ kept.
             files_of_shelf self.new file ≡ files_of_shelf self.old file ++ take kept bytes.now) }
         ensures loose { result ≢ Err EdgeFault.OutOfMemory → loose_of_shelf self.new file ≡ true }
@@ -120,29 +129,32 @@ impl Shelf for MemShelf {
             None => bytes,
         };
         let done = entries::append(self.alloc, &mut self.entries, file, piece);
-        self.plan.answer(kept, done)
+        self.plan.count_result(kept, done)
     }
 
     fn cut(&mut self, file: File, length: u64) -> Result<(), EdgeFault>
-        ensures cut { OnOk result (files_of_shelf self.new file ≡ take length (files_of_shelf self.old file)) }
+        ensures cut { OnOk result
+            (files_of_shelf self.new file ≡ take length (files_of_shelf self.old file)) }
         ensures kept { IsErrOf result EdgeFault.Failed → IfSome (kept_next self.old) (λ kept.
             files_of_shelf self.new file
-            ≡ (if kept == 0 then files_of_shelf self.old file else take length (files_of_shelf self.old file))) }
+            ≡ (if kept == 0
+            then files_of_shelf self.old file
+            else take length (files_of_shelf self.old file))) }
         ensures loose { result ≢ Err EdgeFault.OutOfMemory → loose_of_shelf self.new file ≡ true }
 
         ensures other_files { (f : File) → f ≢ file → files_of_shelf self.new f ≡ files_of_shelf self.old f }
         ensures other_loose { (f : File) → f ≢ file → loose_of_shelf self.new f ≡ loose_of_shelf self.old f }
         ensures out_of_memory { IsErrOf result EdgeFault.OutOfMemory → IsUntouched self.old self.new }
-        ensures takes_none { files_of_shelf self.old file ≢ [] → result ≢ Err EdgeFault.OutOfMemory }
+        ensures needs_no_memory { files_of_shelf self.old file ≢ [] → result ≢ Err EdgeFault.OutOfMemory }
         ensures counted { IsCounted result self.old self.new }
     {
         let kept = self.plan.kept();
         let done = if kept == Some(0) {
-            entries::loosen(self.alloc, &mut self.entries, file)
+            entries::mark_loose(self.alloc, &mut self.entries, file)
         } else {
             entries::cut(self.alloc, &mut self.entries, file, length as usize)
         };
-        self.plan.answer(kept, done)
+        self.plan.count_result(kept, done)
     }
 
     fn flush(&mut self, file: File) -> Result<(), EdgeFault>
@@ -151,21 +163,10 @@ impl Shelf for MemShelf {
         ensures other_loose { (f : File) → f ≢ file → loose_of_shelf self.new f ≡ loose_of_shelf self.old f }
         ensures untouched { OnErr result (IsUntouched self.old self.new) }
         ensures counted { IsCounted result self.old self.new }
-        ensures only_fails { OnErr result (IsErrOf result EdgeFault.Failed) }
+        ensures only_error { OnErr result (IsErrOf result EdgeFault.Failed) }
     {
-        self.plan.next()?;
+        self.plan.count_call()?;
         entries::flush(&mut self.entries, file);
         Ok(())
     }
-}
-
-/// Copies what `from` has from byte `at` on to the front of `into`, as much as fits.
-fn copy_from(from: &[u8], at: usize, into: &mut [u8]) -> usize
-    ensures bound { result ≤ length into.new }
-    ensures given { take result into.new ≡ take (length into.new) (drop at from.now) }
-{
-    let rest = &from[at.min(from.len())..];
-    let count = rest.len().min(into.len());
-    into[..count].copy_from_slice(&rest[..count]);
-    count
 }

@@ -1,12 +1,12 @@
-//! A sink that keeps its bytes in a vector, and fails where it is told to.
+//! A sink in memory, which fails at planned writes.
 ghost use Rattle.std.specs.Prelude.{◌≡◌, ◌↔◌, ◌+◌, ◌++◌, [], Contains, Some, length, IfOk, IsErrOf, is_ok, if◌then◌else◌};
 ghost use Rattle.edge_traits.specs.Faults.{counted_once_more, CountsFailed};
 
-use crate::plan::FaultPlan;
+use crate::fault_plan::FaultPlan;
 use crate::{EdgeFault, Sink};
 use std::alloc::Global;
 
-/// A sink in memory. It tells its bytes. Defined by this project.
+/// A sink in memory. It is observable.
 #[derive(Drop)]
 pub struct MemSink {
     bytes: Vec<u8>,
@@ -16,8 +16,8 @@ pub struct MemSink {
 impl MemSink {
     ghost use Rattle.edge_traits.specs.MemSink.{written_of, failing_writes, write_calls, write_faults, IsFaultlessSink};
 
-    /// A sink with nothing written to it. The write calls whose numbers, counted from 0, stand in `failing` answer
-    /// `Failed`. Each other one takes its piece whole, or answers `OutOfMemory`.
+    /// A sink with nothing written to it. The writes whose numbers, counted from 0, are in
+    /// `failing` return `Failed`. Each other write takes its whole piece, or returns `OutOfMemory`.
     pub fn new(alloc: Global, failing: Vec<u32>) -> Self
         ensures written { written_of result ≡ [] }
         ensures failing { failing_writes result ≡ failing.items }
@@ -54,13 +54,14 @@ impl Sink for MemSink {
             ≡ (if is_ok result then written_of self.old ++ bytes.now else written_of self.old) }
 
         // Exactly the planned calls fail.
-        ensures fails { IsErrOf result EdgeFault.Failed ↔ Contains (failing_writes self.old) (write_calls self.old) }
+        ensures fails { IsErrOf result EdgeFault.Failed ↔
+            Contains (failing_writes self.old) (write_calls self.old) }
         ensures faults { CountsFailed result (write_faults self.old) (write_faults self.new) }
         ensures calls { write_calls self.new ≡ counted_once_more (write_calls self.old) }
         ensures failing { failing_writes self.new ≡ failing_writes self.old }
         ensures stays_faultless { IsFaultlessSink self.old → IsFaultlessSink self.new }
     {
-        if self.plan.next_fails() {
+        if self.plan.count_call() {
             return Err(EdgeFault::Failed);
         }
         self.bytes.extend_from_slice(bytes)?;

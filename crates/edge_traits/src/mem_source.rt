@@ -1,13 +1,14 @@
-//! A source that gives the bytes of a vector, in pieces that it is told, and fails where it is told to.
+//! A source in memory, which fails at planned reads.
 ghost use Rattle.std.specs.Prelude.{◌≡◌, ◌≤◌, ◌<◌, ◌↔◌, ◌++◌, [], All, Contains, Some, length, take, drop, min, IfOk, OnOk, OnErr, IsErrOf};
 ghost use Rattle.edge_traits.specs.Faults.{counted_once_more, CountsFailed};
-ghost use Rattle.edge_traits.specs.Reads.{most_given};
+ghost use Rattle.edge_traits.specs.Reads.{max_read_len};
 
-use crate::plan::FaultPlan;
+use crate::copy::copy_front;
+use crate::fault_plan::FaultPlan;
 use crate::{EdgeFault, Source};
 use std::alloc::Global;
 
-/// A source in memory. It tells its bytes. Defined by this project.
+/// A source in memory. It is observable.
 #[derive(Drop)]
 pub struct MemSource {
     bytes: Vec<u8>,
@@ -23,9 +24,9 @@ pub struct MemSource {
 impl MemSource {
     ghost use Rattle.edge_traits.specs.MemSource.{left_of, sizes_of, failing_reads, read_calls, read_faults, IsFaultlessSource};
 
-    /// A source of these bytes. The k-th successful read gives at most the k-th size, in bytes; once the sizes are used
-    /// up, a read gives as much as fits. The read calls whose numbers, counted from 0, stand in `failing` answer
-    /// `Failed`, and no other is refused.
+    /// A source of these bytes. The k-th successful read takes at most as many bytes as the k-th
+    /// size says; once the sizes are used up, a read takes as many as fit. The reads whose numbers,
+    /// counted from 0, are in `failing` return `Failed`, and no other read is refused.
     pub fn new(_alloc: Global, bytes: Vec<u8>, sizes: Vec<u32>, failing: Vec<u32>) -> Self
         requires { All (λ size. 1 ≤ size) sizes.items }
 
@@ -59,41 +60,42 @@ impl Source for MemSource {
     fn read(&mut self, into: &mut [u8]) -> Result<usize, EdgeFault>
         ensures bound { IfOk result (λ k. k ≤ length into.new) }
         ensures given { IfOk result (λ k. left_of self.old ≡ take k into.new ++ left_of self.new) }
-        ensures end { result ≡ Ok 0 → 0 < length into.new → left_of self.old ≡ [] }
+        ensures at_end { result ≡ Ok 0 → 0 < length into.new → left_of self.old ≡ [] }
         ensures unchanged { OnErr result (left_of self.new ≡ left_of self.old) }
 
-        // Each read gives as much as there is, fits, and its size allows.
+        // Each read takes as many bytes as there are, as fit, and as its size allows.
         ensures count { IfOk result (λ k.
-            k ≡ min (length (left_of self.old)) (most_given (sizes_of self.old) (length into.new))) }
+            k ≡ min (length (left_of self.old)) (max_read_len (sizes_of self.old) (length into.new))) }
         ensures used_size { OnOk result (sizes_of self.new ≡ drop 1 (sizes_of self.old)) }
         ensures kept_size { OnErr result (sizes_of self.new ≡ sizes_of self.old) }
 
         // Exactly the planned calls fail, and nothing else is refused.
-        ensures fails { IsErrOf result EdgeFault.Failed ↔ Contains (failing_reads self.old) (read_calls self.old) }
-        ensures only_fails { OnErr result (IsErrOf result EdgeFault.Failed) }
+        ensures fails { IsErrOf result EdgeFault.Failed ↔
+            Contains (failing_reads self.old) (read_calls self.old) }
+        ensures only_error { OnErr result (IsErrOf result EdgeFault.Failed) }
         ensures faults { CountsFailed result (read_faults self.old) (read_faults self.new) }
         ensures calls { read_calls self.new ≡ counted_once_more (read_calls self.old) }
         ensures failing { failing_reads self.new ≡ failing_reads self.old }
         ensures stays_faultless { IsFaultlessSource self.old → IsFaultlessSource self.new }
     {
-        if self.plan.next_fails() {
+        if self.plan.count_call() {
             return Err(EdgeFault::Failed);
         }
-        let room = next_room(&self.sizes, &mut self.read_count, into.len());
+        let room = count_read(&self.sizes, &mut self.read_count, into.len());
         let count = copy_front(&self.bytes[self.at..], into, room);
         self.at += count;
         Ok(count)
     }
 }
 
-/// How much the next read gives at most. Counts that read.
-fn next_room(sizes: &[u32], read_count: &mut usize, room: usize) -> usize
+/// Counts a read, and returns how many bytes it takes at most.
+fn count_read(sizes: &[u32], read_count: &mut usize, room: usize) -> usize
     requires in_sizes { read_count.old ≤ length sizes.now }
     requires positive { All (λ size. 1 ≤ size) sizes.now }
 
-    ensures most { result ≡ most_given (drop read_count.old sizes.now) room }
+    ensures most { result ≡ max_read_len (drop read_count.old sizes.now) room }
     ensures fits { result ≤ room }
-    ensures some { 0 < room → 0 < result }
+    ensures not_empty { 0 < room → 0 < result }
     ensures used { drop read_count.new sizes.now ≡ drop 1 (drop read_count.old sizes.now) }
     ensures in_sizes { read_count.new ≤ length sizes.now }
 {
@@ -103,15 +105,4 @@ fn next_room(sizes: &[u32], read_count: &mut usize, room: usize) -> usize
     let size = sizes[*read_count] as usize;
     *read_count += 1;
     size.min(room)
-}
-
-/// Copies the front of `from` to the front of `into`, at most `room` bytes of it.
-fn copy_front(from: &[u8], into: &mut [u8], room: usize) -> usize
-    requires { room ≤ length into.old }
-    ensures count { result ≡ min (length from.now) room }
-    ensures given { take result into.new ≡ take result from.now }
-{
-    let count = from.len().min(room);
-    into[..count].copy_from_slice(&from[..count]);
-    count
 }

@@ -4,8 +4,8 @@ ghost use Rattle.edge_traits.specs.Faults.{CountsFault};
 
 use crate::{EdgeFault, File, Shelf};
 
-/// A shelf with nothing on it: no file has bytes and none is loose. Each call counts a fault and answers `Failed`.
-/// Defined by this project.
+/// A shelf with nothing on it: no file has bytes, and none is loose. It is observable. Each call
+/// counts a fault and returns `Failed`.
 #[derive(Drop)]
 pub struct NoShelf {
     faults: u64,

@@ -1,11 +1,12 @@
-//! One read or one write, tried again where a signal interrupts it.
+//! One read or one write, tried again if a signal interrupts it.
 ghost use Rattle.std.specs.Prelude.{◌≤◌, length, IfOk};
 ghost use Rattle.std.specs.Io.KnownBytes.{ReadConsumes, WriteAppends};
 
 use std::io;
 use std::io::{ErrorKind, Read, Write};
 
-/// How often an interrupted call is made again before its error stands. std makes it once.
+/// How often an interrupted call is made again before its error is returned. The reader and the
+/// writer of std make it once.
 const RETRIES: u32 = 64;
 
 pub(crate) fn read_retrying<R: Read>(reader: &mut R, into: &mut [u8]) -> io::Result<usize>
@@ -15,7 +16,7 @@ pub(crate) fn read_retrying<R: Read>(reader: &mut R, into: &mut [u8]) -> io::Res
     for _ in 0..RETRIES {
         match reader.read(into) {
             Err(error) if error.kind() == ErrorKind::Interrupted => {}
-            answer => return answer,
+            result => return result,
         }
     }
     reader.read(into)
@@ -28,7 +29,7 @@ pub(crate) fn write_retrying<W: Write>(writer: &mut W, bytes: &[u8]) -> io::Resu
     for _ in 0..RETRIES {
         match writer.write(bytes) {
             Err(error) if error.kind() == ErrorKind::Interrupted => {}
-            answer => return answer,
+            result => return result,
         }
     }
     writer.write(bytes)

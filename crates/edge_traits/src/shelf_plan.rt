@@ -1,4 +1,4 @@
-//! Which calls of a shelf in memory fail, and what they leave.
+//! Which calls of a shelf in memory fail, and what they keep.
 ghost use Rattle.std.specs.Prelude.{◌≡◌, ◌<◌, ◌^◌, OnOk, OnErr, IsSome, IsNone, IsOk, IsErr, IsErrOf, ◌↔◌};
 ghost use Rattle.edge_traits.specs.Faults.{counted_once_more, CountsFailed};
 ghost use Rattle.edge_traits.specs.ShelfPlan.{fail_at, ArePast};
@@ -7,15 +7,16 @@ use crate::EdgeFault;
 use crate::tally::Tally;
 use sd_base::OutOfMemory;
 
-/// A call of a `MemShelf` that fails: its number, counted from 0, and what it leaves. An append keeps so many bytes of the
-/// piece, or all of them where there are fewer; a cut is done where `kept` isn't 0. Defined by this project.
+/// A call of a `MemShelf` that fails: its number, counted from 0, and what it keeps. An append
+/// keeps that many bytes of the piece, or all of them if there are fewer. A cut is done if `kept`
+/// is not 0.
 #[derive(Clone, Copy, Debug, PartialEq, Eq)]
 pub struct ShelfFail {
     pub call: u32,
     pub kept: u32,
 }
 
-/// The calls of a shelf in memory that fail, and the count of its calls.
+/// The calls that fail, and the count of the calls so far.
 #[derive(Drop)]
 pub(crate) struct ShelfPlan {
     failing: Vec<ShelfFail>,
@@ -35,13 +36,13 @@ impl ShelfPlan {
         }
     }
 
-    /// What the call that is made now keeps, where it is to fail.
+    /// What the next call keeps, if it is to fail.
     pub(crate) fn kept(&self) -> Option<u32>
         ensures kept { result ≡ fail_at self.now.failing.items self.now.tally.calls }
         ensures small { IsSome result → self.now.tally.calls < 2 ^ 32 }
         ensures past { ArePast self.now.failing.items self.now.tally.calls → IsNone result }
     {
-        let number = self.tally.next();
+        let number = self.tally.next_number();
         for fail in &self.failing {
             if u64::from(fail.call) == number {
                 return Some(fail.kept);
@@ -50,11 +51,11 @@ impl ShelfPlan {
         None
     }
 
-    /// Counts a call that takes no memory, and gives its answer.
-    pub(crate) fn next(&mut self) -> Result<(), EdgeFault>
+    /// Counts a call that needs no memory, and returns whether it fails.
+    pub(crate) fn count_call(&mut self) -> Result<(), EdgeFault>
         ensures fails { IsErr result ↔ IsSome (fail_at self.old.failing.items self.old.tally.calls) }
         ensures ok { OnOk result (IsNone (fail_at self.old.failing.items self.old.tally.calls)) }
-        ensures only_fails { OnErr result (IsErrOf result EdgeFault.Failed) }
+        ensures only_error { OnErr result (IsErrOf result EdgeFault.Failed) }
         ensures faults { CountsFailed result self.old.tally.faults self.new.tally.faults }
         ensures calls { self.new.tally.calls ≡ counted_once_more self.old.tally.calls }
         ensures failing { self.new.failing.items ≡ self.old.failing.items }
@@ -63,11 +64,11 @@ impl ShelfPlan {
             ArePast self.new.failing.items self.new.tally.calls }
     {
         let kept = self.kept();
-        self.answer(kept, Ok(()))
+        self.count_result(kept, Ok(()))
     }
 
-    /// Counts the call, and gives its answer: want of memory, or the failure that was planned.
-    pub(crate) fn answer(
+    /// Counts a call, and returns its result: out of memory, or otherwise the planned failure.
+    pub(crate) fn count_result(
         &mut self,
         kept: Option<u32>,
         done: Result<(), OutOfMemory>,
@@ -85,7 +86,7 @@ impl ShelfPlan {
         ensures stays_past { ArePast self.old.failing.items self.old.tally.calls →
             ArePast self.new.failing.items self.new.tally.calls }
     {
-        self.tally.count(done.is_ok() && kept.is_some());
+        self.tally.count_call(done.is_ok() && kept.is_some());
         done?;
         match kept {
             Some(_) => Err(EdgeFault::Failed),

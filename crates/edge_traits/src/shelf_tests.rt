@@ -1,4 +1,4 @@
-use crate::{EdgeFault, File, MemShelf, Shelf, ShelfFail};
+use crate::{EdgeFault, File, MemShelf, NoShelf, Shelf, ShelfFail};
 use std::alloc::AllocError;
 use std::test::Fail;
 
@@ -24,7 +24,7 @@ fn a_file_that_was_put_is_read(rt: HostRuntime) -> Result<(), Fail> {
 }
 
 #[test]
-fn files_are_apart(rt: HostRuntime) -> Result<(), Fail> {
+fn a_call_changes_only_its_own_file(rt: HostRuntime) -> Result<(), Fail> {
     let mut shelf = shelf_with(&rt, &[])?;
     let files = [
         File::Head,
@@ -54,7 +54,7 @@ fn files_are_apart(rt: HostRuntime) -> Result<(), Fail> {
 }
 
 #[test]
-fn planned_calls_fail(rt: HostRuntime) -> Result<(), Fail> {
+fn a_planned_call_fails_and_keeps_what_was_planned(rt: HostRuntime) -> Result<(), Fail> {
     let failed = Some(EdgeFault::Failed);
     let file = File::Container(0, 0);
     for (kept, appended, cut) in [
@@ -63,7 +63,7 @@ fn planned_calls_fail(rt: HostRuntime) -> Result<(), Fail> {
         (2, b"abcde".as_slice(), b"a".as_slice()),
         (9, b"abcde".as_slice(), b"a".as_slice()),
     ] {
-        // The second entry of number 1 decides nothing.
+        // The second entry of call 1 has no effect.
         let failing = [ShelfFail { call: 1, kept }, ShelfFail { call: 1, kept: 9 }];
         let mut shelf = shelf_with(&rt, &failing)?;
         shelf.put_file(file, b"abc")?;
@@ -84,7 +84,7 @@ fn planned_calls_fail(rt: HostRuntime) -> Result<(), Fail> {
 }
 
 #[test]
-fn calls_of_all_kinds_are_numbered(rt: HostRuntime) -> Result<(), Fail> {
+fn calls_of_all_kinds_are_numbered_together(rt: HostRuntime) -> Result<(), Fail> {
     let failed = Some(EdgeFault::Failed);
     let plan = [
         ShelfFail { call: 0, kept: 0 },
@@ -105,8 +105,12 @@ fn calls_of_all_kinds_are_numbered(rt: HostRuntime) -> Result<(), Fail> {
 }
 
 #[test]
-fn a_failing_cut_makes_an_absent_file_loose(rt: HostRuntime) -> Result<(), Fail> {
+fn a_cut_makes_an_absent_file_loose(rt: HostRuntime) -> Result<(), Fail> {
     let file = File::Container(0, 0);
+    let mut shelf = shelf_with(&rt, &[])?;
+    shelf.cut(file, 1)?;
+    assert!(rt; shelf.file(file).is_empty());
+    assert!(rt; shelf.is_loose(file));
     for kept in [0, 1] {
         let mut shelf = shelf_with(&rt, &[ShelfFail { call: 0, kept }])?;
         assert!(rt; !shelf.is_loose(file));
@@ -115,4 +119,16 @@ fn a_failing_cut_makes_an_absent_file_loose(rt: HostRuntime) -> Result<(), Fail>
         assert!(rt; shelf.is_loose(file), "{kept} kept");
     }
     Ok(())
+}
+
+#[test]
+fn no_shelf_fails_at_each_call(rt: HostRuntime) {
+    let mut shelf = NoShelf::new();
+    let failed = Some(EdgeFault::Failed);
+    let mut into = [0u8; 1];
+    assert_eq!(rt; shelf.len(File::Head).err(), failed);
+    assert_eq!(rt; shelf.read_at(File::Seal(0), 0, &mut into).err(), failed);
+    assert_eq!(rt; shelf.append(File::Book(0), b"a").err(), failed);
+    assert_eq!(rt; shelf.cut(File::Container(0, 1), 0).err(), failed);
+    assert_eq!(rt; shelf.flush(File::Head).err(), failed);
 }

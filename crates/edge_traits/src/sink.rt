@@ -5,9 +5,10 @@ ghost use Rattle.edge_traits.specs.Sink.{Appends};
 
 use crate::EdgeFault;
 
-/// A stream of bytes that is written once, at its end. Defined by this project.
+/// A stream of bytes that is written once, at its end. A sink is observable if the bytes that were
+/// written to it are known to the contract.
 pub trait Sink: Send {
-    /// The bytes that were written, where the sink tells them.
+    /// The bytes that were written, if the sink is observable.
     ghost written: { Self → Option (List ℕ) };
 
     /// How often the sink has failed. The count never falls.
@@ -16,12 +17,14 @@ pub trait Sink: Send {
     /// The device will not fail any more.
     ghost faultless: { Self → Type 0 };
 
-    /// Takes some bytes from the front of the piece and answers how many: at least one of a piece that is not empty.
-    /// `Failed` comes only where the device failed; a refused call has written nothing.
+    /// Takes some bytes from the front of the piece and returns how many: at least one of a piece
+    /// that is not empty. `Failed` comes only if the device's count of faults rose in the call. A
+    /// refused call has written nothing.
     fn write(&mut self, bytes: &[u8]) -> Result<usize, EdgeFault>
         ensures bound { IfOk result (λ k. k ≤ length bytes.now) }
         ensures progress { IfOk result (λ k. 0 < length bytes.now → 1 ≤ k) }
-        ensures appended { IfOk result (λ k. Appends (written self.old) (written self.new) (take k bytes.now)) }
+        ensures appended { IfOk result (λ k.
+            Appends (written self.old) (written self.new) (take k bytes.now)) }
 
         ensures failed { IsErrOf result EdgeFault.Failed → Rose (faults self.old) (faults self.new) }
         ensures never_falls { faults self.old ≤ faults self.new }

@@ -8,8 +8,9 @@ use crate::{EdgeFault, Sink};
 use std::io;
 use std::io::Write;
 
-/// Standard output as a sink. It tells nothing of its bytes and flushes after each write. A write answers `Failed` where
-/// the system refuses it or takes nothing of a piece that is not empty. Defined by this project.
+/// Standard output as a sink. It is not observable. Each write is flushed. A write that a signal
+/// interrupts is made again, at most 64 times. `Failed` comes if the system refuses the write, or
+/// takes nothing of a piece that is not empty.
 #[derive(Drop)]
 pub struct StdSink<T> {
     rt: T,
@@ -39,7 +40,7 @@ impl<T: Print + Send + Drop> Sink for StdSink<T> {
     fn write(&mut self, bytes: &[u8]) -> Result<usize, EdgeFault>
         ensures bound { IfOk result (λ k. k ≤ length bytes.now) }
         ensures progress { IfOk result (λ k. 0 < length bytes.now → 1 ≤ k) }
-        ensures only_fails { OnErr result (IsErrOf result EdgeFault.Failed) }
+        ensures only_error { OnErr result (IsErrOf result EdgeFault.Failed) }
         ensures counts { OnErr result (CountsFault (std_sink_faults self.old) (std_sink_faults self.new)) }
         ensures no_fault { OnOk result (std_sink_faults self.new ≡ std_sink_faults self.old) }
     {
@@ -53,9 +54,11 @@ impl<T: Print + Send + Drop> Sink for StdSink<T> {
     }
 }
 
-fn write_flushed<W: Write>(writer: &mut W, bytes: &[u8]) -> io::Result<usize>
+/// Writes to the writer once and flushes it, and returns how many bytes the writer took.
+pub(crate) fn write_flushed<W: Write>(writer: &mut W, bytes: &[u8]) -> io::Result<usize>
     ensures bound { IfOk result (λ k. k ≤ length bytes.now) }
-    ensures bytes { IfOk result (λ k. Appends (W.contents writer.old) (W.contents writer.new) (take k bytes.now)) }
+    ensures bytes { IfOk result (λ k.
+        Appends (W.contents writer.old) (W.contents writer.new) (take k bytes.now)) }
 {
     let count = write_retrying(writer, bytes)?;
     writer.flush()?;

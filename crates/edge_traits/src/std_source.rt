@@ -5,9 +5,9 @@ ghost use Rattle.edge_traits.specs.Faults.{CountsFault};
 use crate::retry::read_retrying;
 use crate::{EdgeFault, Source};
 
-/// Standard input as a source. It tells nothing of its bytes. A read takes a reader of std's, which makes two calls of the
-/// system: an `lseek`, and a read of as much as fits, with no buffer between. A read that a signal interrupts is made
-/// again, as `read_retrying` says; `Failed` is answered where the system refuses it. Defined by this project.
+/// Standard input as a source. It is not observable. A read uses a reader of std, which makes two
+/// system calls: an `lseek`, and a read of as much as fits, with no buffer between. A read that a
+/// signal interrupts is made again, at most 64 times. `Failed` comes if the system refuses it.
 #[derive(Drop)]
 pub struct StdSource<T> {
     rt: T,
@@ -36,8 +36,9 @@ impl<T: Input + Send + Drop> Source for StdSource<T> {
 
     fn read(&mut self, into: &mut [u8]) -> Result<usize, EdgeFault>
         ensures bound { IfOk result (λ k. k ≤ length into.new) }
-        ensures only_fails { OnErr result (IsErrOf result EdgeFault.Failed) }
-        ensures counts { OnErr result (CountsFault (std_source_faults self.old) (std_source_faults self.new)) }
+        ensures only_error { OnErr result (IsErrOf result EdgeFault.Failed) }
+        ensures counts { OnErr result
+            (CountsFault (std_source_faults self.old) (std_source_faults self.new)) }
         ensures no_fault { OnOk result (std_source_faults self.new ≡ std_source_faults self.old) }
     {
         match read_retrying(&mut self.rt.reader(), into) {

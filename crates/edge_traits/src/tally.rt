@@ -1,15 +1,16 @@
-//! How often an object in memory was called, and how often it failed.
+//! How often a device in memory was called, and how often it failed.
 ghost use Rattle.std.specs.Prelude.{◌≡◌, ◌≤◌, ◌<◌, ◌^◌, ◌+◌, IsTrue, if◌then◌else◌};
 ghost use Rattle.edge_traits.specs.Faults.{counted_once_more};
 
-/// The calls so far, numbered from 0, and how many of them failed. A call whose number passes `u32` never fails, so the
-/// count of faults stays far below the last number of 64 bits.
+/// The number of calls so far, and how many of them failed. Calls are numbered from 0. A call whose
+/// number passes `u32` never fails, so the count of faults stays far below the last number of 64
+/// bits.
 #[derive(Drop)]
 pub(crate) struct Tally {
     calls: u64,
     faults: u64,
     ghost among_calls: { faults ≤ calls },
-    ghost few: { faults ≤ 2 ^ 32 },
+    ghost within_limit: { faults ≤ 2 ^ 32 },
 }
 
 impl Tally {
@@ -25,14 +26,14 @@ impl Tally {
     }
 
     /// The number of the next call.
-    pub(crate) fn next(&self) -> u64
+    pub(crate) fn next_number(&self) -> u64
         ensures { result ≡ self.now.calls }
     {
         self.calls
     }
 
     /// Counts the next call, and whether it fails.
-    pub(crate) fn count(&mut self, fails: bool)
+    pub(crate) fn count_call(&mut self, fails: bool)
         requires { IsTrue fails → self.old.calls < 2 ^ 32 }
         ensures faults { self.new.faults ≡ (if fails then self.old.faults + 1 else self.old.faults) }
         ensures calls { self.new.calls ≡ counted_once_more self.old.calls }

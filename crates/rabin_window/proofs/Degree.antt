@@ -1,5 +1,5 @@
--- The degree of a polynomial is the place of its highest set bit, and a reduced number has only bits
--- below that place.
+-- The degree of a polynomial is the place of its highest set bit, and a reduced number has only
+-- bits below that place.
 use Rattle.std.proofs.Common.{◌≡◌, ℕ, suc, ◌+◌, ◌-◌, ◌*◌, ◌/◌, ◌%◌, ◌^◌, ◌<◌, ◌≤◌, arith, subst, sym, ap, ap₂, ◌∙◌, inl, inr, eq-eqb}
 use Rattle.std.proofs.Math.Nat.{pow-suc, mul-le-mul_right, mul_comm, pow-le-pow_right}
 use Rattle.std.proofs.lemmas.Bool.{cases_eq, cases_lt, ne_eqb}

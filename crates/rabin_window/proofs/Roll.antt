@@ -134,8 +134,8 @@ module _ (p k mask r b : ℕ) (is : k + 8 ≡ degree p) (within : degree p < 64)
   pub step_is : bit_xor (bit_or (bit_and r mask * 256 % 2 ^ 64) b) (appending_entry p (r / 2 ^ k)) ≡ append_byte p r b
   step_is = ap (λ x. bit_xor x (appending_entry p (r / 2 ^ k))) low_is ∙ appended_is p k r b is few
 
--- ---- the step by tables, as the code takes it; `leaving'` and `entering'` are the bytes as the code
--- has them
+-- ---- the step by tables, as the code takes it; `leaving'` and `entering'` are the bytes as the
+-- code has them
 
 -- the remainder without what the oldest byte adds
 abbrev pub kept : List ℕ → ℕ → ℕ → ℕ

@@ -2,8 +2,8 @@
 //! with it: the remainder of the window's bits modulo a polynomial over the two-element field. The
 //! crate uses the definitions of `sd_base`.
 //!
-//! `divisor` divides bytes bit by bit. `tables` keeps what a window needs of a polynomial to move by
-//! a byte with two look-ups, and `window` is the window itself.
+//! `divisor` divides bytes bit by bit. `tables` keeps what a window needs of a polynomial to move
+//! by a byte with two look-ups, and `window` is the window itself.
 #![tactic(auto)]
 
 mod divisor;

@@ -67,9 +67,9 @@ impl Tables {
         self.divisor.remainder(bytes)
     }
 
-    /// The fingerprint of a window that has moved by a byte, from `value`, its fingerprint before:
-    /// `out` was its oldest byte, and `inn` is its newest. A scan of a text needs no `Window`, since
-    /// the text still has the bytes.
+    /// The fingerprint of a window that has moved by a byte. `value` was its fingerprint before,
+    /// `out` was its oldest byte, and `inn` is its newest. A scan of a text needs no `Window`,
+    /// since the text still has the bytes.
     #[inline(always)]
     pub fn roll(&self, value: u64, out: u8, inn: u8) -> u64
         requires reduced { value < 2 ^ degree self.now.polynomial }
@@ -87,7 +87,8 @@ impl Tables {
 
 // The remainder of each byte as the oldest of a window whose other bytes are zero.
 fn leaving_table(divisor: Divisor) -> [u64; BYTE_VALUES]
-    ensures entries { (b : ℕ) → b < BYTE_VALUES → slice_index result b ≡ leaving_entry divisor.polynomial b }
+    ensures entries { (b : ℕ) → b < BYTE_VALUES
+        → slice_index result b ≡ leaving_entry divisor.polynomial b }
 {
     let mut table = [0; BYTE_VALUES];
     for (byte, entry) in table.iter_mut().enumerate() {
@@ -101,7 +102,8 @@ fn leaving_table(divisor: Divisor) -> [u64; BYTE_VALUES]
 // The remainder of each byte, as the highest eight bits of a remainder, with a zero byte after it.
 fn appending_table(divisor: Divisor, shift: u32) -> [u64; BYTE_VALUES]
     requires highest_byte { shift + 8 ≡ degree divisor.polynomial }
-    ensures entries { (b : ℕ) → b < BYTE_VALUES → slice_index result b ≡ appending_entry divisor.polynomial b }
+    ensures entries { (b : ℕ) → b < BYTE_VALUES
+        → slice_index result b ≡ appending_entry divisor.polynomial b }
 {
     let mut table = [0; BYTE_VALUES];
     for (byte, entry) in table.iter_mut().enumerate() {

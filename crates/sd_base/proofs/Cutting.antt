@@ -114,7 +114,8 @@ module _ (params : RawParams) (input : List ℕ) (s : ℕ) where
   cuts_within_all (suc n) past = rw (le-ltb s (length input) past)
 
 module _ (params : RawParams) (input : List ℕ) (some : 1 ≤ params.min) (ordered : params.min ≤ params.max) where
-  -- a bound on the number of cuts does not matter if it is at least the number of bytes that are left
+  -- a bound on the number of cuts does not matter if it is at least the number of bytes that are
+  -- left
   pub cuts_within_same :
       (n m s : ℕ) → length input ≤ s + n → length input ≤ s + m →
       cuts_within n params input s ≡ cuts_within m params input s

@@ -15,8 +15,8 @@ slice_range-append front rest a b ordered inside =
     ∙ take-append-le (b - a) (drop a front) rest (omega (arith, length-drop a front))
 
 module _ (params : RawParams) (front rest : List ℕ) where
-  -- a position within the front is a candidate of the whole input if it is one of the front, and not
-  -- otherwise
+  -- a position within the front is a candidate of the whole input if it is one of the front, and
+  -- not otherwise
   pub is_candidate-append :
       (p : ℕ) → p ≤ length front → is_candidate params (front ++ rest) p ≡ is_candidate params front p
   is_candidate-append p inside =

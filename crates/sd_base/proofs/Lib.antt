@@ -1,4 +1,4 @@
--- In reading order. `laws/` and `name/` have the answers of single functions, which cite these.
+-- In reading order. `laws/`, `state_laws/` and `name/` have the answers of single functions, which cite these.
 
 -- what the next cut is, and how a list of cuts or chunks goes on from one of them
 pub mod Cutting
@@ -14,12 +14,21 @@ pub mod Covering
 pub mod Ranges
 -- bytes are a name if and only if they are not refused, and how a `Name` keeps them
 pub mod Names
+-- the distinct chunks of a longer list begin with those of a shorter one
 pub mod Distinct
-pub mod ContainerSizes
+-- one more event only adds to the stored chunks and to the records of a state
 pub mod States
-pub mod Files
-pub mod StateExamples
-pub mod OpeningExamples
+-- the stored chunks that a recipe names are the chunks of its session
 pub mod Recipes
+-- the sizes of containers follow from the lengths of the chunks
+pub mod ContainerSizes
+-- the files that a state is written as hold it, and nothing else
+pub mod Files
+-- the book of a state has its sessions, chunks and places, and no recipe fails
 pub mod StateBooks
+-- files that hold a lawful state open as its book
 pub mod HeldStates
+-- the worked stores are lawful states
+pub mod StateExamples
+-- a worked verdict of opening for each kind of damage
+pub mod OpeningExamples

@@ -1,6 +1,6 @@
 -- The rest of an input after a cut is cut as the whole input is from there. The reason is that the
--- window that decides a cut lies in the chunk that it ends: no chunk except the last is shorter than
--- a window.
+-- window that decides a cut lies in the chunk that it ends: no chunk except the last is shorter
+-- than a window.
 use Rattle.std.proofs.Common.{◌≡◌, inl, inr, ℕ, zero, suc, ◌+◌, ◌-◌, ◌<◌, ◌≤◌, Bool, ◌&&◌, nat_le, List, [], ◌∷◌, ◌++◌, length, take, drop, slice_range, refl, sym, ap, ap₂, ◌∙◌, add-zero, append_assoc, length-drop, drop-drop, arith}
 use Rattle.std.proofs.Math.Nat.{sub-zero}
 use Rattle.std.proofs.lemmas.Bool.{cases_lt, le-leb, lt-leb}
@@ -135,8 +135,8 @@ chunks_of_cons params input window ordered some =
     (ap (λ (n : ℕ). take n input) (sub-zero c))
     (chunks_of-drop params input c inside window ordered (length input) (omega arith))
 
--- For a loop that takes chunks off the front of the rest: all chunks are those that it has taken and
--- those of the rest. If it takes the next one, this still holds.
+-- For a loop that takes chunks off the front of the rest: all chunks are those that it has taken
+-- and those of the rest. If it takes the next one, this still holds.
 pub chunks_of_next :
     (params : RawParams) (input : List ℕ) → WINDOW ≤ params.min → params.min ≤ params.max →
     (chunks : List (List ℕ)) (s : ℕ) → s < length input →

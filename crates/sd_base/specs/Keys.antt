@@ -1,4 +1,4 @@
--- Words of the form KEY=VALUE behind a command. A word is cut at its first `=`. Defined by this project.
+-- Words of the form KEY=VALUE after a command. A word is cut at its first `=`. All rules here are this project's own.
 use Rattle.std.specs.Prelude.{ℕ, ◌+◌, ◌==◌, ◌&&◌, ◌||◌, not, nat_lt, nat_le, Bool, true, false, is_some, if◌then◌else◌, List, [], ◌∷◌, ◌++◌, length, slice_index, Option, Some, None, unwrap_or}
 use Rattle.std.specs.Char.{digit_value}
 use Rattle.std.specs.List.{find, list_any, list_all, before_first, after_first}
@@ -28,7 +28,7 @@ is_spelled key text =
     && list_all (λ c. nat_lt (digit_value c) key.base) text
     && (not (key.base == 10) || length text == 1 || not (slice_index text 0 == 48))
 
--- the value of a key that a text spells, where it is in the key's range
+-- the value of a key that a text spells, if it is in the key's range
 abbrev pub number_of : Key → List ℕ → Option ℕ
 number_of key text =
     if is_spelled key text && nat_le key.least (digits_value key.base text) && nat_le (digits_value key.base text) key.greatest
@@ -38,17 +38,17 @@ number_of key text =
 abbrev pub is_equals_sign : ℕ → Bool
 is_equals_sign c = c == 61
 
--- what stands before the first `=` of a word
-abbrev pub key_of : List ℕ → List ℕ
-key_of word = before_first is_equals_sign word
+-- what comes before the first `=` of a word: the name of its key
+abbrev pub key_name_of : List ℕ → List ℕ
+key_name_of word = before_first is_equals_sign word
 
--- what stands behind it
+-- what comes after it: the text of its value
 abbrev pub value_of : List ℕ → List ℕ
 value_of word = after_first is_equals_sign word
 
--- whether the key of a word has this name
-abbrev pub sets : List ℕ → List ℕ → Bool
-sets name word = bytes_eq (key_of word) name
+-- whether a word sets the key of this name
+abbrev pub sets_key : List ℕ → List ℕ → Bool
+sets_key name word = bytes_eq (key_name_of word) name
 
 -- what is wrong with a value, from its key, if there is one, and from whether that was set before
 abbrev pub bad_kind_of_value : Option Key → Bool → List ℕ → Option BadKind
@@ -60,20 +60,20 @@ bad_kind_of_value (Some key) false value = if is_some (number_of key value) then
 abbrev pub bad_kind_of : List Key → List (List ℕ) → List ℕ → Option BadKind
 bad_kind_of keys before word =
     if list_any is_equals_sign word
-    then bad_kind_of_value (find (λ key. bytes_eq key.name (key_of word)) keys) (list_any (sets (key_of word)) before) (value_of word)
+    then bad_kind_of_value (find (λ key. bytes_eq key.name (key_name_of word)) keys) (list_any (sets_key (key_name_of word)) before) (value_of word)
     else Some NoKey
 
--- a bad word at its place, or else a later one
+-- the bad word at its place, or otherwise a later one
 abbrev pub or_later : Option BadKind → ℕ → Option BadWords → Option BadWords
 or_later None place later = later
 or_later (Some kind) place later = Some (record { kind = kind; place = place })
 
--- the first bad word, of words of which the first is at a place
+-- the first bad word, after the words before it; the first of the words is at a place
 abbrev pub first_bad_word : List Key → List (List ℕ) → ℕ → List (List ℕ) → Option BadWords
 first_bad_word keys before place [] = None
 first_bad_word keys before place (word ∷ words) =
     or_later (bad_kind_of keys before word) place (first_bad_word keys (before ++ word ∷ []) (place + 1) words)
 
--- what the words set a key to, or else its default
-abbrev pub setting : List (List ℕ) → Key → ℕ → ℕ
-setting words key default = unwrap_or (option_and_then (λ word. number_of key (value_of word)) (find (sets key.name) words)) default
+-- the value that the words set a key to, or otherwise its default
+abbrev pub value_or_default : List (List ℕ) → Key → ℕ → ℕ
+value_or_default words key default = unwrap_or (option_and_then (λ word. number_of key (value_of word)) (find (sets_key key.name) words)) default

@@ -18,27 +18,36 @@ pub mod Padding
 pub mod Records
 -- what the records of a book say, and the damage of a book
 pub mod Books
+-- the distinct chunks of a list
+pub mod Distinct
+-- the states of a store, as lists of events
+pub mod States
+-- the settings of a store
+pub mod Settings
+-- when files hold a state
+pub mod Stores
+-- the book of a state
+pub mod StateBooks
+-- the verdict of opening a store
+pub mod Opening
 -- words of the form KEY=VALUE
 pub mod Keys
 -- the words of the command line and the command that they name
 pub mod Words
 -- the texts that commands print
 pub mod Texts
+-- the rows of `list`
+pub mod Rows
 -- the outcome and the text of a run
 pub mod OnePass
 -- what follows from the definitions
 pub mod Laws
+-- what follows from the definitions of states
+pub mod StateLaws
 -- worked examples
 pub mod Examples
+-- worked examples of a store
+pub mod StoreExamples
 -- the library's definitions that these use
 pub use Rattle.sha2.specs.Sha256
 pub use Rattle.hex.specs.Hex
-pub mod Distinct
-pub mod States
-pub mod Settings
-pub mod Stores
-pub mod Opening
-pub mod Rows
-pub mod StateLaws
-pub mod StoreExamples
-pub mod StateBooks

@@ -1,7 +1,7 @@
 -- The words of the command line, as lists of bytes, and the command that they name. Defined by this project.
 use Rattle.std.specs.Prelude.{ℕ, ◌-◌, ◌^◌, List, [], ◌∷◌, codes, Option, Some, None, Result, Ok, Err, if◌then◌else◌}
 use Rattle.std.specs.Str.{bytes_eq}
-use Rattle.sd_base.specs.Keys.{Key, decimal_key, first_bad_word, setting}
+use Rattle.sd_base.specs.Keys.{Key, decimal_key, first_bad_word, value_or_default}
 use Rattle.sd_base.specs.declared.raw_params.RawParams.{RawParams}
 use Rattle.sd_base.specs.declared.words.BadKind.{BadKind}
 use Rattle.sd_base.specs.declared.words.BadKind.TheVariants.{Missing, Command as NoCommand}
@@ -10,12 +10,12 @@ use Rattle.sd_base.specs.declared.words.Quiet.TheVariants.{Plan}
 use Rattle.sd_base.specs.declared.words.Command.{Command}
 use Rattle.sd_base.specs.declared.words.Command.TheVariants.{Quiet}
 
--- the parameters of cutting where none are given: the number of bits, the minimum and the maximum are those of LBFS (SOSP
--- 2001, section 3.1), the polynomial and the target are this project's own
+-- The parameters of cutting if none are given. The number of bits, the minimum and the maximum are those of LBFS (SOSP
+-- 2001, section 3.1); the polynomial and the target are this project's own.
 abbrev pub default_params : RawParams
 default_params = record { polynomial = 0x3DA3358B4DC173; bits = 13; target = 120; min = 2048; max = 65536 }
 
--- `plan` with what is used where no key is given
+-- `plan` if no key is given
 abbrev pub default_plan : Command
 default_plan = Quiet (Plan default_params 4 65536)
 
@@ -41,11 +41,11 @@ params_keys = polynomial_key ∷ bits_key ∷ target_key ∷ min_key ∷ max_key
 -- the parameters that words set
 abbrev pub params_of : List (List ℕ) → RawParams
 params_of words = record {
-  polynomial = setting words polynomial_key default_params.polynomial;
-  bits = setting words bits_key default_params.bits;
-  target = setting words target_key default_params.target;
-  min = setting words min_key default_params.min;
-  max = setting words max_key default_params.max;
+  polynomial = value_or_default words polynomial_key default_params.polynomial;
+  bits = value_or_default words bits_key default_params.bits;
+  target = value_or_default words target_key default_params.target;
+  min = value_or_default words min_key default_params.min;
+  max = value_or_default words max_key default_params.max;
 }
 
 -- the refusal of the word at a place
@@ -57,7 +57,7 @@ abbrev pub unless_bad : Option BadWords → Command → Result Command BadWords
 unless_bad None command = Ok command
 unless_bad (Some bad) command = Err bad
 
--- the words behind `plan`
+-- the words after `plan`
 abbrev pub plan_of : List (List ℕ) → Result Command BadWords
 plan_of words = unless_bad (first_bad_word params_keys [] 1 words) (Quiet (Plan (params_of words) 4 65536))
 

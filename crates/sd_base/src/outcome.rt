@@ -16,6 +16,6 @@ pub enum Outcome {
     SourceFault,
     /// Writing failed; a prefix of the command's text was written.
     SinkFault,
-    /// No memory was found; a prefix of the command's text was written.
+    /// Memory ran out; a prefix of the command's text was written.
     OutOfMemory,
 }

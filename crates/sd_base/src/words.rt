@@ -3,19 +3,19 @@ use crate::raw_params::RawParams;
 /// What is wrong with a word. Defined by this project.
 #[derive(Clone, Copy, Debug, PartialEq, Eq)]
 pub enum BadKind {
-    /// A word should stand at the place, and none does.
+    /// A word is needed at the place, and there is none.
     Missing,
-    /// The first word is no command.
+    /// The first word is not a command.
     Command,
-    /// The word is no name of a session.
+    /// The word is not the name of a session.
     Name,
-    /// The word is no number in its range.
+    /// The word is not a number in its range.
     Number,
-    /// The word is no key of the command with `=` behind it.
+    /// The word is not a key of the command followed by `=`.
     Key,
-    /// The key stood in an earlier word.
+    /// An earlier word has the same key.
     Twice,
-    /// The value is no number in the key's range.
+    /// The value is not a number in the key's range.
     Value,
 }
 

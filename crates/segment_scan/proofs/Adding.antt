@@ -6,11 +6,12 @@ use Rattle.sd_base.specs.Cutting.{is_candidate}
 use Rattle.sd_base.specs.Polynomial.{fingerprint}
 use Rattle.sd_base.proofs.Cutting.{is_candidate_here}
 use Rattle.sd_base.specs.declared.raw_params.RawParams.{RawParams}
+use Rattle.sd_base.specs.declared.limits.TheConstants.{WINDOW}
 use Rattle.segment_scan.specs.Scan.{is_candidate_within, AddsCandidates}
 
--- a position with no whole window before it is none
-early : (params : RawParams) (text : List ℕ) (p : ℕ) → p < 48 → is_candidate params text p ≡ false
-early params text p before = rw (lt-leb 48 p before)
+-- a position with no whole window before it is no candidate
+early : (params : RawParams) (text : List ℕ) (p : ℕ) → p < WINDOW → is_candidate params text p ≡ false
+early params text p before = rw (lt-leb WINDOW p before)
 
 pub or-false : (b : Bool) → (b || false) ≡ b
 or-false true = refl
@@ -20,8 +21,9 @@ pub or_assoc : (a b c : Bool) → ((a || b) || c) ≡ (a || (b || c))
 or_assoc true b c = refl
 or_assoc false b c = refl
 
--- nothing is within a range that is empty or too early
-pub none_within : (params : RawParams) (text : List ℕ) (from to q : ℕ) → (to ≤ from) ⊎ (to < 48) → is_candidate_within params text from to q ≡ false
+-- a range that is empty, or that ends before the first whole window, has no candidate
+pub none_within : (params : RawParams) (text : List ℕ) (from to q : ℕ) → (to ≤ from) ⊎ (to < WINDOW)
+    → is_candidate_within params text from to q ≡ false
 none_within params text from to q no_room =
     elim (cases_lt to q) [
       | inl past ↦ rw (lt-leb q to past) (and_false (ltb from q) (is_candidate params text q))
@@ -40,14 +42,17 @@ none_within params text from to q no_room =
     and_no false = refl
 
 -- so a scan of such a range adds nothing
-pub adds_none : (params : RawParams) (text : List ℕ) (from to : ℕ) (before : List Bool) → (to ≤ from) ⊎ (to < 48) → AddsCandidates params text from to before before
+pub adds_none : (params : RawParams) (text : List ℕ) (from to : ℕ) (before : List Bool)
+    → (to ≤ from) ⊎ (to < WINDOW) → AddsCandidates params text from to before before
 adds_none params text from to before no_room = record {
   bits = refl;
   added = λ q. rw (none_within params text from to q no_room) (sym (or-false (has before q)));
 }
 
--- what lies within a range of one position more
-pub within_more : (params : RawParams) (text : List ℕ) (from p next q : ℕ) → next ≡ p + 1 → from ≤ p → is_candidate_within params text from next q ≡ (is_candidate_within params text from p q || (eqb q next && is_candidate params text next))
+-- the candidates within a range that goes one position further
+pub within_more : (params : RawParams) (text : List ℕ) (from p next q : ℕ) → next ≡ p + 1 → from ≤ p
+    → is_candidate_within params text from next q
+    ≡ (is_candidate_within params text from p q || (eqb q next && is_candidate params text next))
 within_more params text from p next q is_next after =
     elim (cases_eq q next) [
       | inl same ↦
@@ -69,8 +74,11 @@ within_more params text from p next q is_next after =
           | inr within ↦ le-leb q next (omega arith) ∙ sym (le-leb q p within)
         ]
 
--- a scan goes on to the next position, which is added where it is a candidate
-pub adds_more : (params : RawParams) (text : List ℕ) (from p next : ℕ) (before mid after : List Bool) (hit : Bool) → next ≡ p + 1 → from ≤ p → is_candidate params text next ≡ hit → length after ≡ length mid → ((q : ℕ) → has after q ≡ (has mid q || (eqb q next && hit))) → AddsCandidates params text from p before mid → AddsCandidates params text from next before after
+-- a scan goes on to the next position, which is added if it is a candidate
+pub adds_more : (params : RawParams) (text : List ℕ) (from p next : ℕ) (before mid after : List Bool) (hit : Bool)
+    → next ≡ p + 1 → from ≤ p → is_candidate params text next ≡ hit → length after ≡ length mid
+    → ((q : ℕ) → has after q ≡ (has mid q || (eqb q next && hit)))
+    → AddsCandidates params text from p before mid → AddsCandidates params text from next before after
 adds_more params text from p next before mid after hit is_next after_from is_hit bits marked so_far = record {
   bits = bits ∙ so_far.bits;
   added = λ q.
@@ -82,6 +90,9 @@ adds_more params text from p next before mid after hit is_next after_from is_hit
 }
 
 -- the test of the low bits of a fingerprint says whether a position is a candidate
-pub hit_is : (params : RawParams) (text : List ℕ) (p polynomial value bits target : ℕ) → 48 ≤ p → p ≤ length text → polynomial ≡ params.polynomial → bits ≡ params.bits → target ≡ params.target → value ≡ fingerprint polynomial (slice_range text (p - 48) p) → is_candidate params text p ≡ eqb (value % 2 ^ bits) target
+pub hit_is : (params : RawParams) (text : List ℕ) (p polynomial value bits target : ℕ)
+    → WINDOW ≤ p → p ≤ length text → polynomial ≡ params.polynomial → bits ≡ params.bits → target ≡ params.target
+    → value ≡ fingerprint polynomial (slice_range text (p - WINDOW) p)
+    → is_candidate params text p ≡ eqb (value % 2 ^ bits) target
 hit_is params text p polynomial value bits target window within same_polynomial same_bits same_target fingerprinted =
     rw (fingerprinted, same_polynomial, same_bits, same_target) (is_candidate_here params text p window within)

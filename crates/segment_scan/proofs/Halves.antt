@@ -7,25 +7,30 @@ use Rattle.sd_base.specs.declared.raw_params.RawParams.{RawParams}
 use Rattle.segment_scan.specs.Scan.{is_candidate_within, AddsCandidates}
 use Rattle.segment_scan.proofs.Adding.{none_within, within_more, or-false, or_assoc}
 
--- the candidates of two ranges were added to the set, and nothing else
-pub record AddsBoth (params : RawParams) (text : List ℕ) (from to from2 to2 : ℕ) (before after : List Bool) : Type 0 where
+-- exactly the candidates of two ranges were added to the set
+pub record AddsBoth (params : RawParams) (text : List ℕ) (from to from2 to2 : ℕ)
+    (before after : List Bool) : Type 0 where
   pub bits : length after ≡ length before
-  pub added : (q : ℕ) → has after q ≡ (has before q || (is_candidate_within params text from to q || is_candidate_within params text from2 to2 q))
+  pub added : (q : ℕ) → has after q
+      ≡ (has before q || (is_candidate_within params text from to q || is_candidate_within params text from2 to2 q))
 
 -- nothing was added yet
-pub adds_neither : (params : RawParams) (text : List ℕ) (from from2 : ℕ) (before : List Bool) → AddsBoth params text from from from2 from2 before before
+pub adds_neither : (params : RawParams) (text : List ℕ) (from from2 : ℕ) (before : List Bool)
+    → AddsBoth params text from from from2 from2 before before
 adds_neither params text from from2 before = record {
   bits = refl;
   added = λ q. rw (none_within params text from from q (inl (omega arith)), none_within params text from2 from2 q (inl (omega arith))) (sym (or-false (has before q)));
 }
 
 -- each range goes on by a position
-pub adds_more_of_both : (params : RawParams) (text : List ℕ) (from p next from2 p2 next2 : ℕ) (before mid left after : List Bool) (hit hit2 : Bool)
+pub adds_more_of_both : (params : RawParams) (text : List ℕ) (from p next from2 p2 next2 : ℕ)
+    (before mid left after : List Bool) (hit hit2 : Bool)
     → next ≡ p + 1 → from ≤ p → is_candidate params text next ≡ hit
     → next2 ≡ p2 + 1 → from2 ≤ p2 → is_candidate params text next2 ≡ hit2
     → length left ≡ length mid → ((q : ℕ) → has left q ≡ (has mid q || (eqb q next && hit)))
     → length after ≡ length left → ((q : ℕ) → has after q ≡ (has left q || (eqb q next2 && hit2)))
-    → AddsBoth params text from p from2 p2 before mid → AddsBoth params text from next from2 next2 before after
+    → AddsBoth params text from p from2 p2 before mid
+    → AddsBoth params text from next from2 next2 before after
 adds_more_of_both params text from p next from2 p2 next2 before mid left after hit hit2 is_next above is_hit is_next2 above2 is_hit2 left_bits left_marked bits marked so_far = record {
   bits = bits ∙ left_bits ∙ so_far.bits;
   added = λ q.
@@ -45,7 +50,7 @@ adds_more_of_both params text from p next from2 p2 next2 before mid left after h
     in_pairs false false true false y = refl
     in_pairs false false false x y = refl
 
--- what lies within one of two ranges that meet or overlap lies within the whole
+-- a candidate within one of two ranges that meet or overlap is one within the whole
 joined : (params : RawParams) (text : List ℕ) (from low high to q : ℕ) → from ≤ low → low ≤ high → high ≤ to
     → (is_candidate_within params text from high q || is_candidate_within params text low to q) ≡ is_candidate_within params text from to q
 joined params text from low high to q after meet before =
@@ -74,9 +79,11 @@ joined params text from low high to q after meet before =
     absorbed true false = refl
     absorbed false false = refl
 
--- a range that was scanned in two, which meet or overlap
-pub adds_joined : (params : RawParams) (text : List ℕ) (from low high to : ℕ) (before mid after : List Bool) → from ≤ low → low ≤ high → high ≤ to
-    → AddsCandidates params text from high before mid → AddsCandidates params text low to mid after → AddsCandidates params text from to before after
+-- a range that was scanned as two ranges, which meet or overlap
+pub adds_joined : (params : RawParams) (text : List ℕ) (from low high to : ℕ) (before mid after : List Bool)
+    → from ≤ low → low ≤ high → high ≤ to
+    → AddsCandidates params text from high before mid → AddsCandidates params text low to mid after
+    → AddsCandidates params text from to before after
 adds_joined params text from low high to before mid after above meet below first second = record {
   bits = second.bits ∙ first.bits;
   added = λ q.
@@ -87,7 +94,8 @@ adds_joined params text from low high to before mid after above meet below first
 }
 
 -- the halves of a range that were scanned side by side
-pub adds_halves : (params : RawParams) (text : List ℕ) (from high low last to : ℕ) (before after : List Bool) → from ≤ low → low ≤ high → high ≤ to → last ≡ to
+pub adds_halves : (params : RawParams) (text : List ℕ) (from high low last to : ℕ) (before after : List Bool)
+    → from ≤ low → low ≤ high → high ≤ to → last ≡ to
     → AddsBoth params text from high low last before after → AddsCandidates params text from to before after
 adds_halves params text from high low last to before after above meet below at_end both = record {
   bits = both.bits;

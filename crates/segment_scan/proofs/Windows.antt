@@ -2,29 +2,32 @@
 use Rattle.std.proofs.Common.{◌≡◌, ℕ, ◌+◌, ◌-◌, ◌<◌, ◌≤◌, List, [], ◌∷◌, ◌++◌, length, get_or, take, drop, arith, sym, ap, ap₂, ◌∙◌}
 use Rattle.std.specs.Prelude.{slice_range}
 use Rattle.sd_base.specs.Polynomial.{fingerprint}
+use Rattle.sd_base.specs.declared.limits.TheConstants.{WINDOW}
 use Rattle.std.proofs.lemmas.List.{drop-take, drop-drop, take_more, get_or-drop, get_or-take, length-drop, length-take-le}
 
--- a window is 48 bytes
-pub window_length : (text : List ℕ) (p : ℕ) → 48 ≤ p → p ≤ length text → length (slice_range text (p - 48) p) ≡ 48
+-- a window has 48 bytes
+pub window_length : (text : List ℕ) (p : ℕ) → WINDOW ≤ p → p ≤ length text
+    → length (slice_range text (p - WINDOW) p) ≡ WINDOW
 window_length text p enough within =
-    let size : p - (p - 48) ≡ 48 = omega arith in
-    ap (λ n. length (take n (drop (p - 48) text))) size
-    ∙ length-take-le 48 (drop (p - 48) text) (omega (arith, length-drop (p - 48) text))
+    let size : p - (p - WINDOW) ≡ WINDOW = omega arith in
+    ap (λ n. length (take n (drop (p - WINDOW) text))) size
+    ∙ length-take-le WINDOW (drop (p - WINDOW) text) (omega (arith, length-drop (p - WINDOW) text))
 
 -- its oldest byte
-pub window_oldest : (text : List ℕ) (p : ℕ) → 48 ≤ p → get_or (slice_range text (p - 48) p) 0 0 ≡ get_or text (p - 48) 0
+pub window_oldest : (text : List ℕ) (p : ℕ) → WINDOW ≤ p
+    → get_or (slice_range text (p - WINDOW) p) 0 0 ≡ get_or text (p - WINDOW) 0
 window_oldest text p enough =
-    let start : p - 48 + 0 ≡ p - 48 = omega arith in
-    get_or-take (p - (p - 48)) (drop (p - 48) text) 0 0 (omega arith) ∙ get_or-drop (p - 48) text 0 0 ∙ ap (λ n. get_or text n 0) start
+    let start : p - WINDOW + 0 ≡ p - WINDOW = omega arith in
+    get_or-take (p - (p - WINDOW)) (drop (p - WINDOW) text) 0 0 (omega arith) ∙ get_or-drop (p - WINDOW) text 0 0 ∙ ap (λ n. get_or text n 0) start
 
--- without its oldest byte and with the next one it is the window a position further
-pub window_moved : (text : List ℕ) (p : ℕ) → 48 ≤ p → p < length text
-    → drop 1 (slice_range text (p - 48) p) ++ get_or text p 0 ∷ [] ≡ slice_range text (p + 1 - 48) (p + 1)
+-- without its oldest byte, and with the next one, it is the window one position further
+pub window_moved : (text : List ℕ) (p : ℕ) → WINDOW ≤ p → p < length text
+    → drop 1 (slice_range text (p - WINDOW) p) ++ get_or text p 0 ∷ [] ≡ slice_range text (p + 1 - WINDOW) (p + 1)
 window_moved text p enough within =
-    let from = p - 48 in
+    let from = p - WINDOW in
     let before : p - from ≡ 1 + 47 = omega arith in
-    let after : 47 + 1 ≡ p + 1 - (p + 1 - 48) = omega arith in
-    let next : from + 1 ≡ p + 1 - 48 = omega arith in
+    let after : 47 + 1 ≡ p + 1 - (p + 1 - WINDOW) = omega arith in
+    let next : from + 1 ≡ p + 1 - WINDOW = omega arith in
     let last : from + 1 + 47 ≡ p = omega arith in
     let rest = drop (from + 1) text in
     let kept : drop 1 (slice_range text from p) ≡ take 47 rest =
@@ -33,12 +36,13 @@ window_moved text p enough within =
     let some : 47 < length rest = omega (arith, length-drop (from + 1) text) in
     ap₂ (λ xs x. xs ++ x ∷ []) kept new ∙ sym (take_more rest 47 0 some) ∙ ap₂ (λ n m. take n (drop m text)) after next
 
--- so a rolled fingerprint is that of the window a position further
-pub fingerprint_rolled : (text : List ℕ) (polynomial value rolled p next : ℕ) → 48 ≤ p → p < length text → next ≡ p + 1
-    → value ≡ fingerprint polynomial (slice_range text (p - 48) p)
-    → ((window : List ℕ) → length window ≡ 48 → get_or window 0 0 ≡ get_or text (p - 48) 0 → value ≡ fingerprint polynomial window → rolled ≡ fingerprint polynomial (drop 1 window ++ get_or text p 0 ∷ []))
-    → rolled ≡ fingerprint polynomial (slice_range text (next - 48) next)
+-- so a rolled fingerprint is that of the window one position further
+pub fingerprint_rolled : (text : List ℕ) (polynomial value rolled p next : ℕ) → WINDOW ≤ p → p < length text → next ≡ p + 1
+    → value ≡ fingerprint polynomial (slice_range text (p - WINDOW) p)
+    → ((window : List ℕ) → length window ≡ WINDOW → get_or window 0 0 ≡ get_or text (p - WINDOW) 0
+    → value ≡ fingerprint polynomial window → rolled ≡ fingerprint polynomial (drop 1 window ++ get_or text p 0 ∷ []))
+    → rolled ≡ fingerprint polynomial (slice_range text (next - WINDOW) next)
 fingerprint_rolled text polynomial value rolled p next enough within is_next before roll =
-    roll (slice_range text (p - 48) p) (window_length text p enough (omega arith)) (window_oldest text p enough) before
+    roll (slice_range text (p - WINDOW) p) (window_length text p enough (omega arith)) (window_oldest text p enough) before
     ∙ ap (fingerprint polynomial) (window_moved text p enough within)
-    ∙ ap (λ n. fingerprint polynomial (slice_range text (n - 48) n)) (sym is_next)
+    ∙ ap (λ n. fingerprint polynomial (slice_range text (n - WINDOW) n)) (sym is_next)

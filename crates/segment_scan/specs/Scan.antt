@@ -4,11 +4,12 @@ use Rattle.candidate_map.specs.Positions.{has}
 use Rattle.sd_base.specs.Cutting.{is_candidate}
 use Rattle.sd_base.specs.declared.raw_params.RawParams.{RawParams}
 
--- whether a position is a candidate above `from` and up to and with `to`
+-- whether a position is a candidate above `from` and up to and including `to`
 abbrev pub is_candidate_within : RawParams → List ℕ → ℕ → ℕ → ℕ → Bool
 is_candidate_within params text from to p = nat_lt from p && nat_le p to && is_candidate params text p
 
--- these candidates were added to the set, and nothing else
-pub record AddsCandidates (params : RawParams) (text : List ℕ) (from to : ℕ) (before after : List Bool) : Type 0 where
+-- exactly these candidates were added to the set
+pub record AddsCandidates (params : RawParams) (text : List ℕ) (from to : ℕ)
+    (before after : List Bool) : Type 0 where
   pub bits : length after ≡ length before
   pub added : (p : ℕ) → has after p ≡ (has before p || is_candidate_within params text from to p)

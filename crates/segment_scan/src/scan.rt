@@ -9,9 +9,13 @@ use candidate_map::PlainMap;
 use rabin_window::Tables;
 use sd_base::{Params, WINDOW};
 
-/// Adds to the map exactly the candidates of the text above position `from` and up to and with position `to`. A window
-/// that reaches back before `from` is read whole, so that no candidate at the edge of a range is lost. All are positions
-/// in bytes. It takes no memory. The first stage of SS-CDC (SYSTOR 2019).
+// Bytes of a window, as a distance in a slice.
+const WINDOW_SIZE: usize = WINDOW as usize;
+
+/// Adds to the map exactly the candidates of the text above position `from` and up to and including
+/// position `to`. A window that reaches back before `from` is read whole, so no candidate at the
+/// edge of a range is lost. Positions count bytes. It takes no memory. The first stage of SS-CDC
+/// (SYSTOR 2019).
 pub fn scan_range(
     tables: &Tables,
     params: &Params,
@@ -26,14 +30,14 @@ pub fn scan_range(
     requires mapped { length map.old ≡ length text.now + 1 }
     ensures added { AddsCandidates (numbers_of params.now) text.now from to map.old map.new }
 
-    // A map that was empty has the candidates of the text, and of every longer one, up to `to`.
+    // A map that was empty has, up to `to`, the candidates of the text and of every longer one.
     ensures from_empty { (bits : ℕ) (rest : List ℕ) → map.old ≡ replicate bits false → from ≡ 0
         → HoldsCandidates (numbers_of params.now) (text.now ++ rest) map.new to }
 {
     scan_text(tables, params, text, from, to, map);
 }
 
-// The same by the text alone.
+// The same, without the clause on an empty map.
 fn scan_text(tables: &Tables, params: &Params, text: &[u8], from: u32, to: u32, map: &mut PlainMap)
     requires same_polynomial { tables.now.polynomial ≡ params.now.polynomial }
     requires ordered { from ≤ to }
@@ -45,16 +49,17 @@ fn scan_text(tables: &Tables, params: &Params, text: &[u8], from: u32, to: u32, 
         return;
     }
     let first = (from + 1).max(WINDOW);
-    // Behind the halves one position is left where the number of positions after the first is odd. It is scanned in either
-    // case, as a scan twice adds nothing more.
+    // If the number of positions after the first is odd, the halves leave out the last one. It is
+    // scanned in either case, since scanning a position twice adds nothing more.
     let even_end = to - (to - first) % 2;
     scan_one(tables, params, text, first, map);
     scan_side_by_side(tables, params, text, first, even_end, map);
     scan_one(tables, params, text, to, map);
 }
 
-// Adds the candidates above position `low` and up to and with position `end`, an even number of positions further. The two
-// halves are scanned side by side: a roll waits for the roll before it, and not for that of the other half.
+// Adds the candidates above position `low` and up to and including position `end`, which is an even
+// number of positions further. The two halves are scanned side by side, so that their rolls
+// overlap: a roll waits only for the roll before it in its own half.
 fn scan_side_by_side(
     tables: &Tables,
     params: &Params,
@@ -64,7 +69,7 @@ fn scan_side_by_side(
     map: &mut PlainMap,
 )
     requires same_polynomial { tables.now.polynomial ≡ params.now.polynomial }
-    requires whole_window { 48 ≤ low }
+    requires whole_window { WINDOW ≤ low }
     requires ordered { low ≤ end }
     requires even { (end - low) % 2 ≡ 0 }
     requires inside { end ≤ length text.now }
@@ -74,12 +79,12 @@ fn scan_side_by_side(
     let low_bits = LowBits::new(params);
     let half = (end - low) / 2;
     let middle = low + half;
-    let mut left = tables.fingerprint(&text[low as usize - 48..low as usize]);
-    let mut right = tables.fingerprint(&text[middle as usize - 48..middle as usize]);
+    let mut left = tables.fingerprint(&text[low as usize - WINDOW_SIZE..low as usize]);
+    let mut right = tables.fingerprint(&text[middle as usize - WINDOW_SIZE..middle as usize]);
     for p in low..middle {
         let q = p + half;
-        left = tables.roll(left, text[p as usize - 48], text[p as usize]);
-        right = tables.roll(right, text[q as usize - 48], text[q as usize]);
+        left = tables.roll(left, text[p as usize - WINDOW_SIZE], text[p as usize]);
+        right = tables.roll(right, text[q as usize - WINDOW_SIZE], text[q as usize]);
         mark(map, low_bits, left, p + 1);
         mark(map, low_bits, right, q + 1);
     }
@@ -88,23 +93,27 @@ fn scan_side_by_side(
 // Adds a position if it is a candidate. Its window is read whole.
 fn scan_one(tables: &Tables, params: &Params, text: &[u8], p: u32, map: &mut PlainMap)
     requires same_polynomial { tables.now.polynomial ≡ params.now.polynomial }
-    requires whole_window { 48 ≤ p }
+    requires whole_window { WINDOW ≤ p }
     requires inside { p ≤ length text.now }
     requires mapped { length map.old ≡ length text.now + 1 }
     ensures { AddsCandidates (numbers_of params.now) text.now (p - 1) p map.old map.new }
 {
-    let value = tables.fingerprint(&text[p as usize - 48..p as usize]);
+    let value = tables.fingerprint(&text[p as usize - WINDOW_SIZE..p as usize]);
     mark(map, LowBits::new(params), value, p);
 }
 
-// Adds a position where the fingerprint of its window is a match.
+// Adds a position if the fingerprint of its window is a match.
 #[inline(always)]
 fn mark(map: &mut PlainMap, low_bits: LowBits, fingerprint: u64, p: u32)
     requires { p < length map.old }
     ensures bits { length map.new ≡ length map.old }
-    ensures added { (q : ℕ) → has map.new q ≡ (has map.old q || (q == p && fingerprint % 2 ^ low_bits.bits == low_bits.target)) }
+    ensures added { (q : ℕ) → has map.new q
+        ≡ (has map.old q || (q == p && fingerprint % 2 ^ low_bits.bits == low_bits.target)) }
 {
-    if low_bits.match_in(fingerprint) {
+    if low_bits.is_match(fingerprint) {
         map.set(p);
     }
 }
+
+#[cfg(test)]
+mod tests;

@@ -37,7 +37,7 @@ list_again item spell Fits reader (n ∷ ns) rest fits =
     let regrouped : flat_map spell (n ∷ ns) ++ rest ≡ spell n ++ (flat_map spell ns ++ rest) = ap (λ (x : List ℕ). x ++ rest) (flat_map-cons spell n ns) ∙ append_assoc (spell n) (flat_map spell ns) rest in
     ap (list_at item (suc (length ns))) regrouped ∙ rw (reader.again n (flat_map spell ns ++ rest) fits.0, list_again item spell Fits reader ns rest fits.1) refl
 
--- items behind their number
+-- the number of items, and the items
 abbrev counted : {A : Type 0} → (A → List ℕ) → List A → List ℕ
 counted spell ns = u32_bytes (length ns) ++ flat_map spell ns
 
@@ -182,8 +182,8 @@ chunk_lengths [] fits = omega arith
 chunk_lengths (chunk ∷ chunks) fits =
     ap length (flat_map-cons new_chunk chunk chunks) ∙ omega (arith, chunk_lengths chunks fits.1, length-append (new_chunk chunk) (flat_map new_chunk chunks), length-append (u32_bytes chunk.length) chunk.name, fits.0.name)
 
--- a record of the grammar is far shorter than a number of four bytes can say
+-- a record of the grammar, with its drop, is far shorter than a number of four bytes can say
 pub body_is_short : (entry : Record) → IsRecord entry → 37 + (length (body_of entry) + 41) ≤ 2 ^ 30
 body_is_short (Ingest entry) fits =
-    omega (arith, length_ingest_body entry, length_entries entry.recipe, chunk_lengths entry.fresh (recursion_from_All IsNewChunk entry.fresh fits.chunks), fits.name.few, fits.chunk_limit, fits.place_limit)
+    omega (arith, length_ingest_body entry, length_entries entry.recipe, chunk_lengths entry.fresh (recursion_from_All IsNewChunk entry.fresh fits.chunks), fits.name.within_limit, fits.chunk_limit, fits.place_limit)
 body_is_short (Drop session) fits = omega arith

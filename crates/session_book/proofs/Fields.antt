@@ -41,7 +41,7 @@ just x = Some x
 pub some_is : {A : Type 0} (x y : A) → just x ≡ just y → x ≡ y
 some_is x y e = cc
 
--- a test that let a value through
+-- a value that a test let through
 pub unless_some : {A : Type 0} (b : Bool) (x y : A) → cond b None (Some x) ≡ just y → (b ≡ false) × (x ≡ y)
 unless_some true x y e = absurd cc
 unless_some false x y e = (refl, cc)
@@ -54,7 +54,7 @@ none_from_is_some : {A : Type 0} (o : Option A) → is_some o ≡ false → o �
 none_from_is_some None _ = refl
 none_from_is_some (Some x) h = absurd cc
 
--- what a reader took from the front
+-- bytes begin with a text, and only bytes follow it
 pub record StartsWith (bytes text rest : List ℕ) : Type 0 where
   pub parts : bytes ≡ text ++ rest
   pub rest_fits : IsBytes rest

@@ -9,13 +9,13 @@ use Rattle.sd_base.specs.declared.damage.Damage.{Damage}
 use Rattle.sd_base.specs.declared.damage.Damage.TheVariants.{Record as BadRecord}
 use Rattle.sd_base.specs.declared.record.Session.{Session}
 use Rattle.sd_base.specs.declared.record.Record.{Record}
-use Rattle.session_book.specs.Replaying.{WithMemory, UnlessNoMemory, IsFault, Replays}
+use Rattle.session_book.specs.Replaying.{IfDamaged, UnlessOutOfMemory, IsFault, Replays}
 use Rattle.session_book.specs.declared.replay.BookFault.{BookFault}
 use Rattle.session_book.specs.declared.replay.BookFault.TheVariants.{Damaged, OutOfMemory}
 use Rattle.session_book.proofs.Steps.{spelled_apart, begins_from_rest}
 use Rattle.session_book.proofs.Replaying.{sessions_after}
 
--- the first record of a book, and what stands behind it
+-- the first record of a book, and what follows it
 first_of : (entry : Record) (records : List Record) (rest : List ℕ) → book_of (entry ∷ records) ++ rest ≡ spelling_of entry ++ (book_of records ++ rest)
 first_of entry records rest = ap (λ (t : List ℕ). t ++ rest) (flat_map-cons spelling_of entry records) ∙ append_assoc (spelling_of entry) (book_of records) rest
 
@@ -31,7 +31,7 @@ same_records max sessions (a ∷ first) (b ∷ second) x y here there count e =
     let rest : first ≡ second = same_records max (followed_by sessions b) first second x y lawful there.1.1 (omega arith) apart.1 in
     ap (λ (entry : Record). entry ∷ first) apart.0 ∙ ap (λ (records : List Record). b ∷ records) rest
 
--- what stands behind fewer records
+-- what follows fewer records begins with a record
 record IsLonger (max : ℕ) (sessions : List Session) (x : List ℕ) : Type 0 where
   entry : Record
   rest : List ℕ
@@ -90,13 +90,13 @@ one_damage max bytes n first second (inr a) (inr b) =
     let both : Some first ≡ Some second = sym a.first ∙ ap (λ (records : List Record). recipe_damage [] 0 (sessions_of records)) same ∙ b.first in
     cc
 
--- ---- what a replay answers
+-- ---- what a replay returns
 
-fault_is_no_book : (max : ℕ) (bytes : List ℕ) (n : ℕ) (fault : BookFault) → IsFault max bytes n fault → WithMemory fault ((book : BookState) → (Err fault ≡ Ok book) ↔ IsReplay max bytes n book)
+fault_is_no_book : (max : ℕ) (bytes : List ℕ) (n : ℕ) (fault : BookFault) → IsFault max bytes n fault → IfDamaged fault ((book : BookState) → (Err fault ≡ Ok book) ↔ IsReplay max bytes n book)
 fault_is_no_book max bytes n (Damaged damage) is = λ book. (λ e. absurd cc, λ other. absurd (not_both max bytes n book damage other is))
 fault_is_no_book max bytes n OutOfMemory is = tt
 
-pub whole_unless : (max : ℕ) (bytes : List ℕ) (n : ℕ) (r : Result BookState BookFault) → Replays max bytes n r → UnlessNoMemory r ((book : BookState) → (r ≡ Ok book) ↔ IsReplay max bytes n book)
+pub whole_unless : (max : ℕ) (bytes : List ℕ) (n : ℕ) (r : Result BookState BookFault) → Replays max bytes n r → UnlessOutOfMemory r ((book : BookState) → (r ≡ Ok book) ↔ IsReplay max bytes n book)
 whole_unless max bytes n (Ok found) is = λ book. (
   λ e. let same : found ≡ book = cc in subst (IsReplay max bytes n) same is,
   λ other. ap Ok (one_replay max bytes n found book is other),
@@ -106,13 +106,13 @@ whole_unless max bytes n (Err fault) is = fault_is_no_book max bytes n fault is
 abbrev failed : BookFault → Result BookState BookFault
 failed fault = Err fault
 
-fault_is_damage : (max : ℕ) (bytes : List ℕ) (n : ℕ) (fault : BookFault) → IsFault max bytes n fault → WithMemory fault ((damage : Damage) → (failed fault ≡ failed (Damaged damage)) ↔ IsBookDamage max bytes n damage)
+fault_is_damage : (max : ℕ) (bytes : List ℕ) (n : ℕ) (fault : BookFault) → IsFault max bytes n fault → IfDamaged fault ((damage : Damage) → (failed fault ≡ failed (Damaged damage)) ↔ IsBookDamage max bytes n damage)
 fault_is_damage max bytes n (Damaged found) is = λ damage. (
   λ e. let same : found ≡ damage = cc in subst (IsBookDamage max bytes n) same is,
   λ other. ap (λ (damage : Damage). failed (Damaged damage)) (one_damage max bytes n found damage is other),
 )
 fault_is_damage max bytes n OutOfMemory is = tt
 
-pub damaged_unless : (max : ℕ) (bytes : List ℕ) (n : ℕ) (r : Result BookState BookFault) → Replays max bytes n r → UnlessNoMemory r ((damage : Damage) → (r ≡ Err (Damaged damage)) ↔ IsBookDamage max bytes n damage)
+pub damaged_unless : (max : ℕ) (bytes : List ℕ) (n : ℕ) (r : Result BookState BookFault) → Replays max bytes n r → UnlessOutOfMemory r ((damage : Damage) → (r ≡ Err (Damaged damage)) ↔ IsBookDamage max bytes n damage)
 damaged_unless max bytes n (Ok found) is = λ damage. (λ e. absurd cc, λ other. absurd (not_both max bytes n found damage is other))
 damaged_unless max bytes n (Err fault) is = fault_is_damage max bytes n fault is

@@ -1,4 +1,4 @@
--- The step that bytes give is a record exactly where they begin with one, and short exactly by their number.
+-- The step of bytes is a record exactly if they begin with one, and short exactly if they are too few.
 use Rattle.std.proofs.Common.{◌≡◌, ℕ, ◌+◌, ◌^◌, ◌<◌, ◌≤◌, Bool, true, false, cond, List, [], ◌∷◌, ◌++◌, length, take, drop, Option, Some, None, refl, sym, ap, subst, ◌∙◌, append_assoc, length-append, arith, inl, inr}
 use Rattle.std.specs.Prelude.{◌↔◌, ◌⊎◌, IsTrue, IfOk, OnErr, Result, Ok, Err}
 use Rattle.std.specs.Int.{w32, from_be_bytes}
@@ -221,7 +221,7 @@ step_is_bad bytes fits = (
   λ neither. bad_from_neither (step_of bytes) (λ e. neither.0 ((step_is_short bytes fits).0 e)) (λ entry k e. neither.1 entry k ((step_is_whole bytes fits entry k).0 e)),
 )
 
--- ---- what a call answers
+-- ---- what a call returns
 
 pub whole_if_ok : {E : Type 0} (bytes : List ℕ) (r : Result Step E) → IsBytes bytes → IfOk r (λ step. step ≡ step_of bytes) → IfOk r (λ step. (entry : Record) (k : ℕ) → (step ≡ Whole entry k) ↔ BeginsWith bytes entry k)
 whole_if_ok bytes (Ok step) fits e = rw e (step_is_whole bytes fits)

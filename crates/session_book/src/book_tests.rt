@@ -1,4 +1,4 @@
-use crate::tests::{Seen, answer, sealed};
+use crate::tests::{Seen, flip, sealed, step_of};
 use crate::{Book, BookFault, IngestRecord, NewChunk, NewChunks, Recipe, Record};
 use sd_base::{Damage, Name};
 use std::alloc::{AllocError, Global};
@@ -16,7 +16,7 @@ const Z8: [u8; 32] = [
     0x0d, 0xf5, 0x1e, 0x42, 0xba, 0xf9, 0x1d, 0x4d, 0xe5, 0xb2, 0x32, 0x8d, 0xe0, 0xe8, 0x3d, 0xfc,
 ];
 
-// Where the entries of a recipe stand: three chunks of 64 zeros and one of 8.
+// The entries of a recipe, after their number: three chunks of 64 zeros and one of 8.
 const PLACES: [u8; 20] = [0, 0, 0, 4, 0, 0, 0, 0, 0, 0, 0, 0, 0, 0, 0, 0, 0, 0, 0, 1];
 
 // The record of session `a`: 200 zeros.
@@ -72,7 +72,7 @@ fn chunk(length: u32, name: [u8; 32]) -> NewChunk {
 
 // An empty session is added to a book of `a`, dropped and added again.
 #[test]
-fn sessions_are_added(rt: HostRuntime) -> Result<(), Fail> {
+fn a_name_is_free_again_after_its_drop(rt: HostRuntime) -> Result<(), Fail> {
     let alloc = rt.alloc();
     let book = Book::replay(alloc, &session_a(alloc)?, 1, 256).ok();
     let mut book = book.ok_or("no damage")?;
@@ -98,7 +98,7 @@ fn sessions_are_added(rt: HostRuntime) -> Result<(), Fail> {
     Ok(())
 }
 
-// The book of sessions `a` and `b` and the drop of `a`: what a replay gives of each cut, and with each value of each byte.
+// The book of sessions `a` and `b` and the drop of `a`, cut at each place, and with each value of each byte.
 #[test]
 fn every_cut_and_every_changed_byte_is_damage(rt: HostRuntime) -> Result<(), Fail> {
     let alloc = rt.alloc();
@@ -121,7 +121,7 @@ fn every_cut_and_every_changed_byte_is_damage(rt: HostRuntime) -> Result<(), Fai
     Ok(())
 }
 
-// The record of that book in which a place lies.
+// The record of that book in which a byte is.
 fn record_at(place: usize) -> u32 {
     match place {
         0..=138 => 0,
@@ -130,7 +130,7 @@ fn record_at(place: usize) -> u32 {
     }
 }
 
-// The record of `b` with another byte: no record, and fewer bytes than one has only where the length of the body is stated.
+// The record of `b` with one byte changed. It is short only if the changed byte is one of the length of the body.
 #[test]
 fn a_changed_record_is_no_record(rt: HostRuntime) -> Result<(), Fail> {
     let alloc = rt.alloc();
@@ -138,23 +138,16 @@ fn a_changed_record_is_no_record(rt: HostRuntime) -> Result<(), Fail> {
     for place in 0..67usize {
         for change in 1..256u32 {
             flip(&mut bytes, place, change as u8);
-            let seen = answer(alloc, &bytes);
+            let seen = step_of(alloc, &bytes);
             assert!(rt; seen == Seen::Bad || (1 <= place && place < 5 && seen == Seen::Short));
             flip(&mut bytes, place, change as u8);
         }
     }
-    assert_eq!(rt; answer(alloc, &bytes), Seen::Whole(67));
+    assert_eq!(rt; step_of(alloc, &bytes), Seen::Whole(67));
     Ok(())
 }
 
-// Changes the bits of a byte that stand in `change`.
-fn flip(bytes: &mut [u8], place: usize, change: u8) {
-    if let Some(byte) = bytes.get_mut(place) {
-        *byte ^= change;
-    }
-}
-
-// How many sessions a replay gives.
+// How many sessions a replay returns.
 fn replayed(alloc: Global, bytes: &[u8], records: u64, max: u32) -> Result<u32, BookFault> {
     match Book::replay(alloc, bytes, records, max) {
         Ok(book) => Ok(book.sessions()),
@@ -162,9 +155,9 @@ fn replayed(alloc: Global, bytes: &[u8], records: u64, max: u32) -> Result<u32, 
     }
 }
 
-// What stands behind the record of session `a`, whose two chunks have 64 and 8 bytes.
+// Two records after that of session `a`, whose two chunks have 64 and 8 bytes.
 #[test]
-fn damages_behind_a_session(rt: HostRuntime) -> Result<(), Fail> {
+fn the_first_damage_after_a_session_is_returned(rt: HostRuntime) -> Result<(), Fail> {
     let alloc = rt.alloc();
     let drop_0: (u8, &[u8]) = (b'D', &[0; 4]);
     let drop_1: (u8, &[u8]) = (b'D', &[0, 0, 0, 1]);
@@ -193,15 +186,14 @@ fn damages_behind_a_session(rt: HostRuntime) -> Result<(), Fail> {
         assert_eq!(rt; replayed(alloc, &bytes, 3, *max), *want);
         assert_eq!(rt; replayed(alloc, &bytes, 4, *max), with_one_missing(*want));
         assert_eq!(rt; replayed(alloc, &bytes, 4, 63), bad_record(0));
-        if let Some(byte) = bytes.get_mut(138) {
-            *byte ^= 1;
-        }
+        flip(&mut bytes, 138, 1);
         assert_eq!(rt; replayed(alloc, &bytes, 3, *max), bad_record(0));
     }
     Ok(())
 }
 
-// What a replay gives of three records that gave this, where four are to be there: a bad record comes before a recipe.
+// What a replay of four records returns if a replay of the three that are there returned this: a bad record comes before
+// a recipe.
 fn with_one_missing(given: Result<u32, BookFault>) -> Result<u32, BookFault> {
     match given {
         Err(BookFault::Damaged(Damage::Record(_))) => given,
@@ -218,9 +210,9 @@ fn bad_recipe(place: u32) -> Result<u32, BookFault> {
     Err(BookFault::Damaged(Damage::Recipe { session: 1, place }))
 }
 
-// Sessions of no bytes: as many as a book may have, dropped ones too, and one more.
+// Sessions of no bytes: as many as a book may have, and one more after one of them was dropped.
 #[test]
-fn most_sessions(rt: HostRuntime) -> Result<(), Fail> {
+fn a_book_has_4096_sessions_and_not_one_more(rt: HostRuntime) -> Result<(), Fail> {
     let alloc = rt.alloc();
     let mut bytes = Vec::new(alloc);
     for session in 0..4096u32 {
@@ -251,7 +243,7 @@ fn empty_session(alloc: Global, session: u32) -> Result<Vec<u8>, AllocError> {
 
 // A session of 100,000 chunks of one byte each.
 #[test]
-fn many_chunks(rt: HostRuntime) -> Result<(), Fail> {
+fn a_session_of_100000_chunks_is_replayed(rt: HostRuntime) -> Result<(), Fail> {
     let alloc = rt.alloc();
     let count: [u8; 4] = 100_000u32.to_be_bytes();
     let mut chunks = Vec::new(alloc);

@@ -2,7 +2,7 @@
 ghost use Rattle.std.specs.Prelude.{◌≡◌, ◌↔◌, ◌≤◌, drop, length, option_map, IfOk, Ok, Err};
 ghost use Rattle.sd_base.specs.Books.{BookState, IsReplay, IsBookDamage};
 ghost use Rattle.sd_base.specs.declared.damage.Damage.{Damage};
-ghost use Rattle.session_book.specs.Replaying.{UnlessNoMemory, TakesRecord, ReadsRecords, Replays};
+ghost use Rattle.session_book.specs.Replaying.{UnlessOutOfMemory, TakesRecord, ReadsRecords, Replays};
 
 use crate::book::Book;
 use crate::step::{Step, next_record};
@@ -23,11 +23,11 @@ impl Book {
     /// after them are not looked at.
     pub fn replay(alloc: Global, bytes: &[u8], records: u64, max: u32) -> Result<Book, BookFault>
         // A book is returned exactly if that many records stand there and no recipe fails.
-        ensures whole { UnlessNoMemory result ((book : BookState) →
+        ensures whole { UnlessOutOfMemory result ((book : BookState) →
             (result ≡ Ok book) ↔ IsReplay max bytes.now records book) }
 
         // A damage is returned exactly if it is the first: of the records, or of the recipes if no record is bad.
-        ensures damaged { UnlessNoMemory result ((damage : Damage) →
+        ensures damaged { UnlessOutOfMemory result ((damage : Damage) →
             (result ≡ Err (BookFault.Damaged damage)) ↔ IsBookDamage max bytes.now records damage) }
     {
         checked_book(alloc, bytes, records, max)

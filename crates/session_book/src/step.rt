@@ -21,9 +21,8 @@ pub enum Step {
     Bad,
 }
 
-/// The record at the front of bytes. It fails only if memory runs out, and only after the digest of the record was found
-/// right. A list gets room for no more items than the bytes can hold, whatever count they state: contracts see a list
-/// as its items, so the clause `room` of the private readers says this.
+/// The record at the front of bytes. It fails only if memory runs out, and only on bytes that begin with a kind, a body
+/// and their digest.
 pub fn next_record(alloc: Global, bytes: &[u8]) -> Result<Step, OutOfMemory>
     // A record is found exactly if the first bytes are its spelling.
     ensures whole { IfOk result (λ step. (entry : Record) (k : ℕ) →
@@ -32,7 +31,7 @@ pub fn next_record(alloc: Global, bytes: &[u8]) -> Result<Step, OutOfMemory>
     ensures bad { IfOk result (λ step. (step ≡ Step.Bad) ↔ BeginsWithNone bytes.now) }
 
     // Short bytes never fail. Others fail only if they begin with a kind, a body and their digest.
-    ensures at_once { IsShort bytes.now → result ≡ Ok Step.Short }
+    ensures short_never_fails { IsShort bytes.now → result ≡ Ok Step.Short }
     ensures sealed { OnErr result (BeginsSealed bytes.now) }
 
     // What was written is read again, whatever follows.
@@ -46,7 +45,7 @@ pub fn next_record(alloc: Global, bytes: &[u8]) -> Result<Step, OutOfMemory>
 #[tactic(auto, unfolding(crate::specs::Reading::step_of))]
 fn front_step(alloc: Global, bytes: &[u8]) -> Result<Step, OutOfMemory>
     ensures step { IfOk result (λ step. step ≡ step_of bytes.now) }
-    ensures at_once { parts_at bytes.now ≡ None → result ≡ Ok Step.Short }
+    ensures short_never_fails { parts_at bytes.now ≡ None → result ≡ Ok Step.Short }
     ensures sealed { OnErr result (BeginsSealed bytes.now) }
 {
     match parts(bytes) {

@@ -12,7 +12,7 @@ pub enum Seen {
     NoMemory,
 }
 
-pub fn answer(alloc: Global, bytes: &[u8]) -> Seen {
+pub fn step_of(alloc: Global, bytes: &[u8]) -> Seen {
     match next_record(alloc, bytes) {
         Ok(Step::Whole(_, used)) => Seen::Whole(used),
         Ok(Step::Short) => Seen::Short,
@@ -21,7 +21,14 @@ pub fn answer(alloc: Global, bytes: &[u8]) -> Seen {
     }
 }
 
-// Parts joined, as a body of a kind with its digest.
+// Flips the bits of a byte that are set in `change`.
+pub fn flip(bytes: &mut [u8], place: usize, change: u8) {
+    if let Some(byte) = bytes.get_mut(place) {
+        *byte ^= change;
+    }
+}
+
+// A kind, a body of these parts, and their digest.
 pub fn sealed(alloc: Global, kind: u8, parts: &[&[u8]]) -> Result<Vec<u8>, AllocError> {
     let mut body = Vec::new(alloc);
     for part in parts {
@@ -60,15 +67,14 @@ fn a_drop_is_read_again_whatever_follows(rt: HostRuntime) -> Result<(), Fail> {
     assert_eq!(rt; bytes.len(), 41);
     let front = bytes.as_slice().get(..9).ok_or("9 bytes")?;
     assert_eq!(rt; front, [b'D', 0, 0, 0, 4, 0, 0, 0, 0].as_slice());
-    assert_eq!(rt; answer(alloc, &bytes), Seen::Whole(41));
+    assert_eq!(rt; step_of(alloc, &bytes), Seen::Whole(41));
     let front = bytes.as_slice().get(..40).ok_or("40 bytes")?;
-    assert_eq!(rt; answer(alloc, front), Seen::Short);
+    assert_eq!(rt; step_of(alloc, front), Seen::Short);
+    flip(&mut bytes, 40, 1);
+    assert_eq!(rt; step_of(alloc, &bytes), Seen::Bad);
+    flip(&mut bytes, 40, 1);
     bytes.push(0xFF)?;
-    assert_eq!(rt; answer(alloc, &bytes), Seen::Whole(41));
-    if let Some(last) = bytes.get_mut(40) {
-        *last ^= 1;
-    }
-    assert_eq!(rt; answer(alloc, &bytes), Seen::Bad);
+    assert_eq!(rt; step_of(alloc, &bytes), Seen::Whole(41));
     Ok(())
 }
 
@@ -90,7 +96,7 @@ fn an_ingest_has_its_one_spelling(rt: HostRuntime) -> Result<(), Fail> {
     ];
     let bytes = sealed(alloc, b'I', &parts)?;
     assert_eq!(rt; bytes.len(), 139);
-    assert_eq!(rt; answer(alloc, &bytes), Seen::Whole(139));
+    assert_eq!(rt; step_of(alloc, &bytes), Seen::Whole(139));
     let again = written_again(alloc, &bytes).ok_or("a record")?;
     assert_eq!(rt; again.as_slice(), bytes.as_slice());
     let entry = ingest_in(alloc, &bytes).ok_or("an ingest")?;
@@ -113,7 +119,7 @@ fn an_ingest_has_its_one_spelling(rt: HostRuntime) -> Result<(), Fail> {
 }
 
 #[test]
-fn bodies_in_the_grammar_and_not(rt: HostRuntime) -> Result<(), Fail> {
+fn a_body_is_read_exactly_if_it_is_in_the_grammar(rt: HostRuntime) -> Result<(), Fail> {
     let alloc = rt.alloc();
     let zero: &[u8] = &[0; 4];
     let one: &[u8] = &[0, 0, 0, 1];
@@ -145,7 +151,7 @@ fn bodies_in_the_grammar_and_not(rt: HostRuntime) -> Result<(), Fail> {
     ];
     for (kind, parts, want) in &cases {
         let bytes = sealed(alloc, *kind, parts)?;
-        assert_eq!(rt; answer(alloc, &bytes), *want);
+        assert_eq!(rt; step_of(alloc, &bytes), *want);
     }
     Ok(())
 }
@@ -160,9 +166,9 @@ fn noise_under_its_digest_is_no_record(rt: HostRuntime) -> Result<(), Fail> {
         state = state.wrapping_mul(1_664_525).wrapping_add(1_013_904_223);
         noise.push(state.to_be_bytes()[0])?;
         let bytes = sealed(alloc, b'I', &[&noise])?;
-        assert_eq!(rt; answer(alloc, &bytes), Seen::Bad);
+        assert_eq!(rt; step_of(alloc, &bytes), Seen::Bad);
     }
-    assert_eq!(rt; answer(alloc, &[0xFF; 200]), Seen::Short);
-    assert_eq!(rt; answer(alloc, &[0; 200]), Seen::Bad);
+    assert_eq!(rt; step_of(alloc, &[0xFF; 200]), Seen::Short);
+    assert_eq!(rt; step_of(alloc, &[0; 200]), Seen::Bad);
     Ok(())
 }

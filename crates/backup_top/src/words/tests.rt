@@ -1,18 +1,10 @@
 use super::read_words;
+use crate::tests::words;
 use sd_base::{
     BadKind, BadWords, Command, DEFAULT_BITS, DEFAULT_MAX, DEFAULT_MIN, DEFAULT_POLYNOMIAL,
     DEFAULT_SEGMENT, DEFAULT_TARGET, DEFAULT_WORKERS, Quiet, RawParams,
 };
-use std::alloc::{AllocError, Global};
 use std::test::Fail;
-
-fn words(alloc: Global, texts: &[&str]) -> Result<Vec<String>, AllocError> {
-    let mut words = Vec::new(alloc);
-    for text in texts {
-        words.push(String::from_str(alloc, text)?)?;
-    }
-    Ok(words)
-}
 
 const DEFAULT_PARAMS: RawParams = RawParams {
     polynomial: DEFAULT_POLYNOMIAL,

@@ -1,6 +1,6 @@
 use Rattle.std.proofs.Common.{◌≡◌, None, ◌∙◌, ap, sym, get_or, take, string_bytes, arith, rules}
 use Rattle.sd_base.specs.Keys.{bad_kind_of}
-use Rattle.backup_top.specs.Keys.{key_held, keys_held}
+use Rattle.backup_top.specs.Keys.{key_spec_of, key_specs_of}
 use Rattle.backup_top.specs.Words.{texts_of}
 use Rattle.backup_top.proofs.KeysFlaws.{unset_at_first, left_step, later_step}
 use Rattle.backup_top.proofs.keys.first_bad_word.Goals as goal
@@ -8,12 +8,12 @@ use Rattle.backup_top.proofs.keys.first_bad_word.Goals as goal
 pub loop-i-init : goal.loop-i-init
 loop-i-init c = record {
   later = search rules;
-  left = omega (arith, unset_at_first key_held c.args.keys.now);
+  left = omega (arith, unset_at_first key_spec_of c.args.keys.now);
 }
 
 pub loop-i-preserved : goal.loop-i-preserved
 loop-i-preserved c =
-    let keys = keys_held c.args.keys.now in
+    let keys = key_specs_of c.args.keys.now in
     let words = c.args.words.now in
     let i = c.loop-i.i in
     let word = c.index-words-i.result in

@@ -2,8 +2,8 @@ use Rattle.std.proofs.Common.{[], ◌∷◌, length, subst, sym, ap, ◌∙◌, 
 use Rattle.std.proofs.lemmas.Bool.{true≢false}
 use Rattle.std.proofs.lemmas.Slice.{pushed}
 use Rattle.sd_base.specs.Params.{numbers_of}
-use Rattle.cut_walk.specs.Walk.{IsCutOn, AreCutsOn, end_of}
-use Rattle.cut_walk.proofs.WalkLemmas.{cuts_are_first, cuts_are_all, end_of-push, AreCutsOn-push, AreCutsOn-rise, AreCutsOn-within}
+use Rattle.cut_walk.specs.Walk.{IsCutOn, AreCutsOn, last_cut}
+use Rattle.cut_walk.proofs.WalkLemmas.{cuts_are_first, cuts_are_all, last_cut-push, AreCutsOn-push, AreCutsOn-rise, AreCutsOn-within}
 use Rattle.cut_walk.proofs.cuts.cuts_from.Goals as goal
 
 pub loop-from-preserved : goal.loop-from-preserved
@@ -12,10 +12,10 @@ loop-from-preserved c =
     let map = c.args.map.now in
     let walk = c.loop-from.invariant in
     let items = pushed (c.in-Some.cut ∷ []) refl c.in_ok-push-in-Some.was c.push.ensures.items in
-    let next = subst (λ s. IsCutOn params map c.args.known c.args.at_end s c.in-Some.cut) (sym walk.stands) c.in-Some.ensures.cut in
+    let next = subst (λ s. IsCutOn params map c.args.known c.args.at_end s c.in-Some.cut) (sym walk.at_last) c.in-Some.ensures.cut in
     record {
       inside = omega (arith, c.in-Some.ensures.cut.within);
-      stands = ap (end_of c.args.start) items ∙ end_of-push c.loop-from.cuts.items c.args.start c.in-Some.cut;
+      at_last = ap (last_cut c.args.start) items ∙ last_cut-push c.loop-from.cuts.items c.args.start c.in-Some.cut;
       cuts = subst (λ cs. AreCutsOn params map c.args.known c.args.at_end c.args.start cs) (sym items)
           (AreCutsOn-push params map c.args.known c.args.at_end c.loop-from.cuts.items c.args.start c.in-Some.cut walk.cuts next);
     }
@@ -29,7 +29,7 @@ pub returns-clause-of_whole_input : goal.returns-clause-of_whole_input
 returns-clause-of_whole_input c input holds end all =
     cuts_are_all (numbers_of c.args.params.now) c.args.map.now c.args.known c.args.at_end input holds (omega arith) (λ _. all)
     c.loop-from.cuts.items c.args.start (length input) c.loop-from.invariant.cuts
-    (omega (arith, c.loop-from.invariant.stands)) (omega arith)
+    (omega (arith, c.loop-from.invariant.at_last)) (omega arith)
 
 pub returns-clause-of_longer_input : goal.returns-clause-of_longer_input
 returns-clause-of_longer_input c input holds more part =

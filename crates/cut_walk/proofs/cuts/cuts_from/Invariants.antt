@@ -1,13 +1,13 @@
 use Rattle.std.proofs.Common.{◌≡◌, ◌-◌, ◌≤◌}
 use Rattle.sd_base.specs.Params.{numbers_of}
-use Rattle.cut_walk.specs.Walk.{AreCutsOn, end_of}
+use Rattle.cut_walk.specs.Walk.{AreCutsOn, last_cut}
 use Rattle.cut_walk.proofs.cuts.cuts_from.Given as goal
 
--- the cuts so far, and that the walk stands at the last of them
+-- the cuts so far; the walk is at the last of them
 abbrev pub invariant-loop-from : goal.invariant-loop-from
 invariant-loop-from l = record {
   inside : l.from ≤ l.known;
-  stands : end_of l.start l.cuts.items ≡ l.from;
+  at_last : last_cut l.start l.cuts.items ≡ l.from;
   cuts : AreCutsOn (numbers_of l.params) l.map l.known l.at_end l.start l.cuts.items;
 }
 

@@ -17,7 +17,7 @@ pub returns-in-Some-clause-of_longer_input : goal.returns-in-Some-clause-of_long
 returns-in-Some-clause-of_longer_input c input holds more part =
     cut_is_next (numbers_of c.args.params.now) c.args.map.now c.args.known c.args.at_end input holds part (λ end. absurd (true≢false (sym end ∙ more))) c.args.start c.in-Some.candidate (by_candidate c)
 
--- so is the longest chunk's end, or that of the input, where there is no such candidate
+-- if there is no such candidate, the next cut is the longest chunk's end, or that of the input
 by_length : (c : goal.Then-params-left) → IsCutOn (numbers_of c.args.params.now) c.args.map.now c.args.known c.args.at_end c.args.start (c.args.start + c.min.result)
 by_length c = search rules
 

@@ -2,6 +2,7 @@ use Rattle.std.proofs.Common.{◌≡◌, ◌+◌, ◌-◌, ◌%◌, ◌/◌, ◌
 use Rattle.candidate_map.specs.Positions.{has}
 use Rattle.sd_base.specs.Params.{numbers_of}
 use Rattle.sd_base.specs.Polynomial.{fingerprint}
+use Rattle.sd_base.specs.declared.limits.TheConstants.{WINDOW}
 use Rattle.segment_scan.proofs.Adding.{hit_is}
 use Rattle.segment_scan.proofs.Halves.{adds_neither, adds_more_of_both, adds_halves}
 use Rattle.segment_scan.proofs.Windows.{fingerprint_rolled}
@@ -34,9 +35,9 @@ loop-p-preserved c =
     let right_hit = eqb (right % 2 ^ bits) target in
     let is_next : next ≡ q + 1 = omega arith in
     let also_next : q + 1 ≡ next = omega arith in
-    let left_rolled : left ≡ fingerprint polynomial (slice_range text (p + 1 - 48) (p + 1)) =
+    let left_rolled : left ≡ fingerprint polynomial (slice_range text (p + 1 - WINDOW) (p + 1)) =
     fingerprint_rolled text polynomial c.loop-p.left left p (p + 1) (omega arith) (omega arith) refl c.loop-p.invariant.left c.roll-left.ensures.rolled in
-    let right_rolled : right ≡ fingerprint polynomial (slice_range text (next - 48) next) =
+    let right_rolled : right ≡ fingerprint polynomial (slice_range text (next - WINDOW) next) =
     fingerprint_rolled text polynomial c.loop-p.right right q next (omega arith) (omega arith) is_next c.loop-p.invariant.right c.roll-right.ensures.rolled in
     record {
       left = left_rolled;

@@ -1,13 +1,14 @@
 use Rattle.std.proofs.Common.{◌-◌, ◌%◌, ◌≤◌, ◌<◌, ◌⊎◌, inl, inr, arith}
 use Rattle.std.proofs.lemmas.Bool.{cases_lt}
 use Rattle.sd_base.specs.Params.{numbers_of}
+use Rattle.sd_base.specs.declared.limits.TheConstants.{WINDOW}
 use Rattle.segment_scan.proofs.Adding.{adds_none}
 use Rattle.segment_scan.proofs.Halves.{adds_joined}
 use Rattle.segment_scan.proofs.scan.scan_text.Goals as goal
 
 pub returns-then-from-to : goal.returns-then-from-to
 returns-then-from-to c =
-    let no_room : (c.args.to ≤ c.args.from) ⊎ (c.args.to < 48) = elim c.then-from-to.either [ inl empty ↦ inl empty | inr early ↦ inr early.1 ] in
+    let no_room : (c.args.to ≤ c.args.from) ⊎ (c.args.to < WINDOW) = elim c.then-from-to.either [ inl empty ↦ inl empty | inr early ↦ inr early.1 ] in
     adds_none (numbers_of c.args.params.now) c.args.text.now c.args.from c.args.to c.args.map.now no_room
 
 pub returns : goal.returns
@@ -19,7 +20,7 @@ returns c =
     let first = c.max-first.result in
     let even_end = to - (to - first) % 2 in
     let start = c.args.map.now in
-    let no_room : (first - 1 ≤ from) ⊎ (first - 1 < 48) = elim (cases_lt from 48) [ inl low ↦ inr (omega arith) | inr high ↦ inl (omega arith) ] in
+    let no_room : (first - 1 ≤ from) ⊎ (first - 1 < WINDOW) = elim (cases_lt from WINDOW) [ inl low ↦ inr (omega arith) | inr high ↦ inl (omega arith) ] in
     let upto_first = adds_joined params text from (first - 1) (first - 1) first start start c.scan_one.new.map (omega arith) (omega arith) (omega arith)
     (adds_none params text from (first - 1) start no_room) c.scan_one.ensures in
     let upto_even = adds_joined params text from first first even_end start c.scan_one.new.map c.scan_side_by_side.new.map (omega arith) (omega arith) (omega arith)

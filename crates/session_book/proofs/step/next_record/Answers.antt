@@ -14,5 +14,5 @@ returns-clause-bad c = bad_if_ok c.args.bytes.now c.front_step.result (λ i. ome
 pub returns-clause-again : goal.returns-clause-again
 returns-clause-again c = again_if_ok c.args.bytes.now c.front_step.result c.front_step.ensures.step
 
-pub returns-clause-at_once : goal.returns-clause-at_once
-returns-clause-at_once c = λ short. c.front_step.ensures.at_once ((short_is_no_parts c.args.bytes.now (λ i. omega (arith, c.type_inv.bytes i))).1 short)
+pub returns-clause-short_never_fails : goal.returns-clause-short_never_fails
+returns-clause-short_never_fails c = λ short. c.front_step.ensures.short_never_fails ((short_is_no_parts c.args.bytes.now (λ i. omega (arith, c.type_inv.bytes i))).1 short)

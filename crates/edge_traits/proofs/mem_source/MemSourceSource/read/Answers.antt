@@ -6,6 +6,6 @@ pub returns-clause-given : goal.returns-clause-given
 returns-clause-given c =
     front_given c.args.self.now.bytes.items c.deref-2.result.now _ c.args.self.now.at _ c.deref-2.ensures.value c.copy_front-count.ensures.given
 
-pub returns-clause-end : goal.returns-clause-end
-returns-clause-end c =
-    λ none some. none_left c.args.self.now.bytes.items c.deref-2.result.now c.args.self.now.at _ _ c.deref-2.ensures.value c.copy_front-count.ensures.count (c.next_room-room.ensures.some (omega (arith, some))) (cc)
+pub returns-clause-at_end : goal.returns-clause-at_end
+returns-clause-at_end c =
+    λ none some. none_left c.args.self.now.bytes.items c.deref-2.result.now c.args.self.now.at _ _ c.deref-2.ensures.value c.copy_front-count.ensures.count (c.count_read-room.ensures.not_empty (omega (arith, some))) (cc)
