@@ -1,11 +1,10 @@
 -- The files that a state is written as hold it, and nothing else.
-use Rattle.std.proofs.Common.{◌≡◌, Some, ℕ, ◌+◌, Bool, true, false, List, [], ◌++◌, length, take, replicate, refl, ap, sym, ◌∙◌, arith}
+use Rattle.std.proofs.Common.{◌≡◌, Some, ℕ, ◌+◌, List, [], length, replicate, refl, ap, sym, ◌∙◌, arith}
 use Rattle.std.specs.Prelude.{◌==◌, slice_index_or, if◌then◌else◌}
 use Rattle.std.proofs.lemmas.Bool.Decides.{Decides-eqb}
 use Rattle.std.proofs.lemmas.List.{append-nil, length-replicate}
 use Rattle.sd_base.specs.Books.{book_of}
 use Rattle.sd_base.specs.Packing.{packing}
-use Rattle.sd_base.specs.Settings.{settings_of}
 use Rattle.sd_base.specs.States.{State, stored_chunks}
 use Rattle.sd_base.specs.Stores.{AreClean, HoldState, IsCommittedAlone, files_of, records_of}
 use Rattle.sd_base.specs.declared.limits.TheConstants.{COMMIT_BYTE}

@@ -1,5 +1,5 @@
 -- The records of a lawful state are lawful, so files that hold it open as its book.
-use Rattle.std.proofs.Common.{◌≡◌, inl, inr, ℕ, zero, suc, ◌+◌, ◌^◌, ◌<◌, ◌≤◌, Bool, true, false, None, List, [], ◌∷◌, ◌++◌, length, map, refl, ap, sym, subst, ◌∙◌, arith, length-append, append-nil}
+use Rattle.std.proofs.Common.{◌≡◌, inl, inr, ℕ, zero, suc, ◌^◌, ◌<◌, ◌≤◌, true, None, List, [], ◌∷◌, ◌++◌, length, map, refl, ap, sym, subst, ◌∙◌, arith, length-append, append-nil}
 use Rattle.std.specs.Prelude.{slice_index_or}
 use Rattle.std.specs.List.{All, AllByRecursion, concat, fold}
 use Rattle.std.proofs.lemmas.Bool.{cases_Bool}
@@ -20,7 +20,6 @@ use Rattle.sd_base.specs.declared.file.File.TheVariants.{Container}
 use Rattle.sd_base.specs.declared.raw_params.RawParams.{RawParams}
 use Rattle.sd_base.specs.declared.limits.TheConstants.{MAX_CHUNK_LEN, MAX_CHUNKS, MAX_PLACES, MAX_SESSIONS}
 use Rattle.sd_base.specs.declared.record.NewChunk.{NewChunk}
-use Rattle.sd_base.specs.declared.record.Record.TheVariants.{Ingest, Drop}
 use Rattle.sd_base.proofs.ContainerSizes.{sizes-packing}
 use Rattle.sd_base.proofs.Covering.{chunk_sizes}
 use Rattle.sd_base.proofs.Distinct.{distinct-append}

@@ -1,10 +1,10 @@
 -- Worked examples of the verdict of opening: one for each kind of damage.
-use Rattle.std.specs.Prelude.{◌≡◌, IsTrue, ℕ, ◌+◌, ◌^◌, ◌<◌, ◌≤◌, List, [], ◌∷◌, ◌++◌, length, replicate, codes}
-use Rattle.std.proofs.Common.{inl, inr, refl, sym, ap, ◌∙◌, lit<, lit≤, arith}
+use Rattle.std.specs.Prelude.{◌≡◌, IsTrue, ℕ, ◌^◌, ◌<◌, ◌≤◌, List, [], ◌∷◌, ◌++◌, replicate, codes}
+use Rattle.std.proofs.Common.{inl, inr, refl, sym, ◌∙◌, lit<, lit≤, arith}
 use Rattle.std.proofs.Math.Seq.{take-nil}
 use Rattle.std.proofs.lemmas.List.{append-nil}
-use Rattle.sd_base.specs.Books.{BookState, book_of, book_after}
-use Rattle.sd_base.specs.Examples.{small_params, IsValid-small_params, session_of, two_chunks}
+use Rattle.sd_base.specs.Books.{book_of, book_after}
+use Rattle.sd_base.specs.Examples.{small_params, IsValid-small_params, session_of}
 use Rattle.sd_base.specs.Opening.{HeadState, HasHead, IsOpeningDamage}
 use Rattle.std.proofs.lemmas.List.Elements.{All-from_recursion}
 use Rattle.sd_base.specs.Names.{IsName, name_byte}
@@ -17,7 +17,7 @@ use Rattle.sd_base.specs.declared.file.File.{File}
 use Rattle.sd_base.specs.declared.file.File.TheVariants.{Head, Seal, Book, Container}
 use Rattle.sd_base.specs.declared.record.IngestRecord.{IngestRecord}
 use Rattle.sd_base.specs.declared.record.Record.{Record}
-use Rattle.sd_base.specs.declared.record.Record.TheVariants.{Ingest, Drop}
+use Rattle.sd_base.specs.declared.record.Record.TheVariants.{Ingest}
 
 -- a store of generation 0 with no containers
 abbrev files_with : List ℕ → List ℕ → List ℕ → File → List ℕ

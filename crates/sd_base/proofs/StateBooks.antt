@@ -1,26 +1,25 @@
 -- The book of a state has the sessions of the state, its chunks and its places.
-use Rattle.std.proofs.Common.{◌≡◌, inl, inr, ℕ, zero, suc, ◌+◌, ◌<◌, ◌≤◌, Bool, true, false, Option, Some, None, List, [], ◌∷◌, ◌++◌, length, map, refl, ap, sym, subst, ◌∙◌, arith, length-append, append-nil}
-use Rattle.std.specs.Prelude.{◌&&◌, ◌==◌, nat_le, if◌then◌else◌, slice_index_or, unwrap_or, option_map}
-use Rattle.std.specs.List.{All, AllByRecursion, concat, flat_map, fold, sum_by, position, position_or_len, slice_get}
+use Rattle.std.proofs.Common.{◌≡◌, inl, inr, ℕ, zero, suc, ◌+◌, ◌<◌, Bool, true, Option, Some, None, List, [], ◌∷◌, ◌++◌, length, map, refl, ap, sym, subst, ◌∙◌, arith, length-append, append-nil}
+use Rattle.std.specs.Prelude.{◌&&◌, ◌==◌, nat_le, if◌then◌else◌, slice_index_or}
+use Rattle.std.specs.List.{AllByRecursion, concat, fold, position, position_or_len}
 use Rattle.std.specs.Str.{bytes_eq}
 use Rattle.std.proofs.lemmas.Bool.{cases_Bool, lt-leb}
 use Rattle.std.proofs.lemmas.Bool.Decides.{Decides-eqb}
 use Rattle.std.proofs.lemmas.Slice.Eq.{bytes_eq-Decides}
 use Rattle.std.proofs.lemmas.List.{append_assoc, length-map, map-append}
 use Rattle.std.proofs.lemmas.List.Sums.{sum_by-cons}
-use Rattle.sd_base.specs.Books.{followed_by, without, sessions_of, chunks_in, places_in, is_live, live_session, bytes_named, or_else, recipe_flaw, flaw_at, recipe_damage}
+use Rattle.sd_base.specs.Books.{followed_by, without, chunks_in, places_in, is_live, live_session, bytes_named, or_else, recipe_flaw, flaw_at, recipe_damage}
 use Rattle.sd_base.specs.Distinct.{is_among, distinct, first_index, new_chunks}
 use Rattle.sd_base.specs.Rows.{live_rows, live_book_rows, row_of_session, row_of_book_session}
 use Rattle.sd_base.specs.Texts.{SessionRow}
 use Rattle.sd_base.specs.StateBooks.{book_session, book_sessions}
-use Rattle.sd_base.specs.States.{Event, ingested, dropped, State, StoredSession, with_drop, with_event, sessions_after, sessions_in, placed_chunks, stored_chunks, is_live_in, live_session_named}
-use Rattle.sd_base.specs.Stores.{named, ingest_record, record_of, records_from, records_of}
+use Rattle.sd_base.specs.States.{Event, ingested, dropped, StoredSession, with_drop, with_event, placed_chunks, is_live_in, live_session_named}
+use Rattle.sd_base.specs.Stores.{named, ingest_record, record_of, records_from}
 use Rattle.sd_base.specs.declared.damage.Damage.{Damage}
 use Rattle.sd_base.specs.declared.record.NewChunk.{NewChunk}
-use Rattle.sd_base.specs.declared.record.Record.{Record}
 use Rattle.sd_base.specs.declared.record.Session.{Session}
 use Rattle.sd_base.proofs.Distinct.{distinct-append, is_among-distinct, first_index-append}
-use Rattle.sd_base.proofs.States.{placed_chunks-append, among_first, among_second, among_own, among_later}
+use Rattle.sd_base.proofs.States.{placed_chunks-append, among_second, among_own, among_later}
 
 -- the chunks of sessions in order, one for each place
 abbrev pub session_chunks : List StoredSession → List (List ℕ)

@@ -1,10 +1,10 @@
 -- The worked stores are lawful states.
-use Rattle.std.specs.Prelude.{◌≡◌, ℕ, ◌^◌, ◌<◌, List, [], ◌∷◌, length, codes, IsTrue, replicate}
+use Rattle.std.specs.Prelude.{◌^◌, ◌<◌, length, codes, IsTrue}
 use Rattle.std.proofs.Common.{refl, sym, lit<, lit≤}
 use Rattle.std.proofs.lemmas.List.Elements.{All-from_recursion}
 use Rattle.sd_base.specs.Examples.{small_params, IsValid-small_params}
 use Rattle.sd_base.specs.Names.{IsName, name_byte}
-use Rattle.sd_base.specs.States.{State, StoredSession, IsCutting, IsLawful, bytes_of_session, sessions_in}
+use Rattle.sd_base.specs.States.{StoredSession, IsCutting, IsLawful, bytes_of_session, sessions_in}
 use Rattle.sd_base.specs.StoreExamples.{twice, once_dropped, zeros_cut, chunks_of-200_zeros}
 
 pub letter_a : IsName (codes "a")

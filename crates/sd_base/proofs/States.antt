@@ -1,18 +1,16 @@
 -- One more event only adds to the stored chunks and to the records of a state.
-use Rattle.std.proofs.Common.{◌≡◌, inl, inr, ℕ, Bool, true, List, [], ◌∷◌, ◌++◌, map, refl, ap, sym, subst, ◌∙◌}
-use Rattle.std.specs.List.{All, concat}
+use Rattle.std.proofs.Common.{◌≡◌, inl, inr, ℕ, true, List, [], ◌∷◌, ◌++◌, map, refl, ap, sym, ◌∙◌}
+use Rattle.std.specs.List.{concat}
 use Rattle.std.specs.Prelude.{length}
 use Rattle.std.proofs.lemmas.Bool.{cases_Bool}
 use Rattle.std.proofs.lemmas.List.{append_assoc, append-nil}
 use Rattle.std.proofs.lemmas.Slice.Eq.{bytes_eq-Decides}
-use Rattle.std.specs.Prelude.{◌||◌}
 use Rattle.std.specs.Str.{bytes_eq}
 use Rattle.std.proofs.lemmas.List.Folds.{list_any-append}
 use Rattle.sd_base.specs.Distinct.{is_among, distinct, first_index, new_chunks}
 use Rattle.sd_base.specs.States.{Event, ingested, dropped, State, placed_chunks, stored_chunks, followed_by_event}
 use Rattle.sd_base.specs.Stores.{named, record_of, records_from, records_of}
-use Rattle.sd_base.specs.declared.record.Record.{Record}
-use Rattle.sd_base.specs.declared.record.Record.TheVariants.{Ingest, Drop}
+use Rattle.sd_base.specs.declared.record.Record.TheVariants.{Ingest}
 use Rattle.sd_base.proofs.Distinct.{distinct-append, is_among-distinct, first_index-append}
 
 pub placed_chunks-append : (xs ys : List Event) → placed_chunks (xs ++ ys) ≡ placed_chunks xs ++ placed_chunks ys

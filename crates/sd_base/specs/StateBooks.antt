@@ -1,7 +1,7 @@
 -- The book of a state: what the records of its events say.
-use Rattle.std.specs.Prelude.{ℕ, List, [], ◌∷◌, ◌++◌, length}
+use Rattle.std.specs.Prelude.{ℕ, List, [], ◌∷◌, ◌++◌}
 use Rattle.sd_base.specs.Books.{BookState, book_after}
-use Rattle.sd_base.specs.States.{State, StoredSession, sessions_in, stored_chunks}
+use Rattle.sd_base.specs.States.{State, StoredSession}
 use Rattle.sd_base.specs.Stores.{ingest_record, records_of}
 use Rattle.sd_base.specs.declared.record.Session.{Session}
 

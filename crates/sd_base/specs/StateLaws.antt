@@ -1,7 +1,7 @@
 -- Laws of states and of the files that hold them, in the words of the subject.
 use Rattle.std.specs.Prelude.{◌≡◌, ℕ, List, [], ◌∷◌, ◌++◌, length, map, slice_index_or, Some}
 use Rattle.std.specs.List.{All}
-use Rattle.sd_base.specs.Distinct.{is_among, distinct, new_chunks, not_among, AreDifferent}
+use Rattle.sd_base.specs.Distinct.{is_among, distinct, new_chunks, AreDifferent}
 use Rattle.sd_base.specs.Packing.{packing, container_sizes}
 use Rattle.sd_base.specs.Opening.{OpenAs}
 use Rattle.sd_base.specs.Rows.{rows_of_book, rows_of_state}
