@@ -1,5 +1,5 @@
--- What the records of a store's book say: its sessions in the order of their ingests, and its chunks in order of first
--- occurrence. All rules here are this project's own.
+-- What the records of a store's book say: its sessions in the order of their ingests, and its
+-- chunks in order of first occurrence.
 use Rattle.std.specs.Prelude.{◌≡◌, ◌⊎◌, ℕ, zero, suc, ◌+◌, ◌<◌, ◌≤◌, ◌==◌, ◌&&◌, nat_le, Bool, true, false, IsTrue, if◌then◌else◌, List, [], ◌∷◌, ◌++◌, length, take, slice_index_or, Option, Some, None, unwrap_or, option_map}
 use Rattle.std.specs.List.{All, flat_map, fold, sum_by, position, slice_get}
 use Rattle.std.specs.Str.{bytes_eq}
@@ -44,8 +44,8 @@ is_live sessions k = unwrap_or (option_map (λ session. session.live) (slice_get
 abbrev pub live_session : List Session → List ℕ → Option ℕ
 live_session sessions name = position (λ session. session.live && bytes_eq session.entry.name name) sessions
 
--- an ingest may follow these sessions: no new chunk is longer than a maximum, no live session has the name, and the book
--- stays within its limits
+-- an ingest may follow these sessions: no new chunk is longer than a maximum, no live session has
+-- the name, and the book stays within its limits
 pub record MayIngest (max : ℕ) (sessions : List Session) (entry : IngestRecord) : Type 0 where
   pub short_chunks : All (λ chunk. chunk.length ≤ max) entry.fresh
   pub free_name : live_session sessions entry.name ≡ None
@@ -89,8 +89,9 @@ abbrev pub or_else : Option ℕ → Option ℕ → Option ℕ
 or_else None other = other
 or_else (Some place) other = Some place
 
--- the place at which a recipe fails among the chunks of the book up to and with its record: the first entry that names no
--- chunk; otherwise its end, if the lengths do not sum to the length of the input
+-- the place at which a recipe fails among the chunks of the book up to and with its record: the
+-- first entry that names no chunk; otherwise its end, if the lengths do not sum to the length of
+-- the input
 abbrev pub recipe_flaw : List NewChunk → IngestRecord → Option ℕ
 recipe_flaw chunks entry =
     or_else (position (λ n. nat_le (length chunks) n) entry.recipe)
@@ -151,8 +152,8 @@ pub record IsRecipeDamage (max : ℕ) (bytes : List ℕ) (n : ℕ) (damage : Dam
 abbrev pub IsBookDamage : ℕ → List ℕ → ℕ → Damage → Type 0
 IsBookDamage max bytes n damage = IsRecordDamage max bytes n damage ⊎ IsRecipeDamage max bytes n damage
 
--- if the old book is the replay of some bytes, then the new one is the replay of its records with this one after them, if no
--- recipe of the new one fails
+-- if the old book is the replay of some bytes, then the new one is the replay of its records with
+-- this one after them, if no recipe of the new one fails
 abbrev pub IsReplayedOn : BookState → Record → BookState → Type 0
 IsReplayedOn old entry new =
     (bytes rest : List ℕ) (n : ℕ) → IsReplay old.max bytes n old → recipe_damage [] 0 new.sessions ≡ None →

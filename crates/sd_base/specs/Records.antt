@@ -1,5 +1,5 @@
--- The records of a store's book, one for each ingest and each drop, and the one spelling of each. Numbers are unsigned
--- and big-endian. The digest is SHA-256 (FIPS 180-4); all other rules are this project's own.
+-- The records of a store's book, one for each ingest and each drop, and the one spelling of each.
+-- Numbers are unsigned and big-endian. The digest is SHA-256 (FIPS 180-4).
 use Rattle.std.specs.Prelude.{◌≡◌, ℕ, ◌+◌, ◌^◌, ◌<◌, ◌≤◌, List, ◌∷◌, ◌++◌, length, take, slice_range, ◌⊎◌}
 use Rattle.std.specs.Int.{w32, from_be_bytes, to_be_bytes}
 use Rattle.std.specs.List.{All, flat_map}
@@ -20,8 +20,9 @@ u32_bytes n = to_be_bytes w32 n
 abbrev pub new_chunk : NewChunk → List ℕ
 new_chunk chunk = u32_bytes chunk.length ++ chunk.name
 
--- the body of an ingest: the length of the session's name in one byte, and the name; the length of the input; the number
--- of new chunks, and the chunks; the number of entries of the recipe, and the entries
+-- the body of an ingest: the length of the session's name in one byte, and the name; the length of
+-- the input; the number of new chunks, and the chunks; the number of entries of the recipe, and the
+-- entries
 unfoldable pub ingest_body : IngestRecord → List ℕ
 ingest_body entry =
     (length entry.name ∷ entry.name) ++ (u32_bytes entry.length
@@ -79,7 +80,8 @@ abbrev pub IsRecord : Record → Type 0
 IsRecord (Ingest entry) = IsIngest entry
 IsRecord (Drop session) = session < 2 ^ 32
 
--- The grammar, as a relation between bytes and records: the first k bytes are the spelling of a record.
+-- The grammar, as a relation between bytes and records: the first k bytes are the spelling of a
+-- record.
 pub record BeginsWith (bytes : List ℕ) (entry : Record) (k : ℕ) : Type 0 where
   pub lawful : IsRecord entry
   pub ends : k ≡ length (spelling_of entry)
@@ -89,7 +91,8 @@ pub record BeginsWith (bytes : List ℕ) (entry : Record) (k : ℕ) : Type 0 whe
 abbrev pub stated_length : List ℕ → ℕ
 stated_length bytes = from_be_bytes w32 (slice_range bytes 1 (1 + NUMBER_LEN))
 
--- fewer bytes than a kind and a length, or fewer than the record has whose kind and length they begin with
+-- fewer bytes than a kind and a length, or fewer than the record has whose kind and length they
+-- begin with
 abbrev pub IsShort : List ℕ → Type 0
 IsShort bytes = (length bytes < 1 + NUMBER_LEN) ⊎ (length bytes < AROUND_BODY + stated_length bytes)
 

@@ -1,4 +1,4 @@
-//! The records of a store's book: what they hold. All rules here are this project's own.
+//! The records of a store's book: what they hold.
 ghost use Rattle.std.specs.Prelude.{◌≡◌};
 
 use crate::name::Name;
@@ -28,7 +28,8 @@ pub struct NewChunk {
     pub name: [u8; 32],
 }
 
-/// A list in a record: contracts see its items. It is made from a `Vec`, and returns it again, without taking memory.
+/// A list in a record: contracts see its items. It is made from a `Vec`, and returns it again,
+/// without taking memory.
 #[derive(Debug, Drop)]
 pub struct Items<T> {
     items: Vec<T>,

@@ -8,7 +8,8 @@ pub mod Fields
 pub mod Bodies
 -- the loop of `read_list`: items that were read, and items that are still to be read
 pub mod Loop
--- the same of whole records: the clauses of `next_record`, and the law that no spelling begins another
+-- a record that is read is the one that was written, and one that was written is read again: the
+-- clauses of `next_record`, and the law that no spelling begins another
 pub mod Steps
 -- what an ingest and a drop do to chunks, places and live sessions
 pub mod Adding

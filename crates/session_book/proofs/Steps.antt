@@ -1,4 +1,5 @@
--- The step of bytes is a record exactly if they begin with one, and short exactly if they are too few.
+-- The step of bytes is a record exactly if they begin with one, and short exactly if they are too
+-- few.
 use Rattle.std.proofs.Common.{◌≡◌, ℕ, ◌+◌, ◌^◌, ◌<◌, ◌≤◌, Bool, true, false, cond, List, [], ◌∷◌, ◌++◌, length, take, drop, Option, Some, None, refl, sym, ap, subst, ◌∙◌, append_assoc, length-append, arith, inl, inr}
 use Rattle.std.specs.Prelude.{◌↔◌, ◌⊎◌, IsTrue, IfOk, OnErr, Result, Ok, Err}
 use Rattle.std.specs.Int.{w32, from_be_bytes}

@@ -1,5 +1,6 @@
--- Reading a record from left to right: each field is a value and the bytes after it, or nothing if the bytes do not begin
--- with such a field. The public contracts do not speak of it: they speak of spellings.
+-- Reading a record from left to right: each field is a value and the bytes after it, or nothing if
+-- the bytes do not begin with such a field. The public contracts do not speak of it: they speak of
+-- spellings.
 use Rattle.std.specs.Prelude.{◌≡◌, ℕ, zero, suc, ◌+◌, ◌==◌, ◌&&◌, nat_lt, nat_le, if◌then◌else◌, List, [], ◌∷◌, length, take, drop, Option, Some, None, is_some, Result, Ok, Err}
 use Rattle.std.specs.Int.{w32, from_be_bytes}
 use Rattle.std.specs.Str.{bytes_eq}

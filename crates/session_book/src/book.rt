@@ -16,8 +16,8 @@ use std::alloc::Global;
 use std::collections::BTreeMap;
 use std::marker::Model;
 
-/// The sessions of a store and its chunks, as its records say. Contracts see the sessions, the length of the records in
-/// bytes, and the greatest length of a chunk that they may have.
+/// The sessions of a store and its chunks, as its records say. Contracts see the sessions, the
+/// length of the records in bytes, and the greatest length of a chunk that they may have.
 #[derive(Debug, Drop)]
 pub struct Book {
     sessions: Vec<Session>,
@@ -56,7 +56,8 @@ impl Book {
         }
     }
 
-    /// Adds a record that may follow those of the book. It fails only if memory runs out, and the book is then unchanged.
+    /// Adds a record that may follow those of the book. It fails only if memory runs out, and the
+    /// book is then unchanged.
     pub fn add(&mut self, entry: Record) -> Result<(), OutOfMemory>
         requires spelled { IsWithinLimits entry }
         requires follows { MayFollow self.old.max self.old.sessions entry }
@@ -91,7 +92,8 @@ impl Book {
         let places = entry.recipe.as_slice().len() as u32;
         let session = self.sessions.len() as u32;
 
-        // Once there is room for the chunks and the session, only the insertion of the name can still fail.
+        // Once there is room for the chunks and the session, only the insertion of the name can
+        // still fail.
         self.chunks.reserve(entry.fresh.as_slice().len())?;
         self.sessions.reserve(1)?;
         self.by_name.insert(entry.name, session)?;
@@ -157,7 +159,8 @@ impl Book {
         session.is_some_and(|session| session.live)
     }
 
-    /// The ingest of a session, live or dropped. There is none exactly if no session has the number.
+    /// The ingest of a session, live or dropped. There is none exactly if no session has the
+    /// number.
     pub fn session(&self, session: u32) -> Option<&IngestRecord>
         ensures { option_copied result ≡ option_map (λ session. session.entry) (slice_get self.now.sessions session) }
     {

@@ -98,7 +98,8 @@ fn a_name_is_free_again_after_its_drop(rt: HostRuntime) -> Result<(), Fail> {
     Ok(())
 }
 
-// The book of sessions `a` and `b` and the drop of `a`, cut at each place, and with each value of each byte.
+// The book of sessions `a` and `b` and the drop of `a`, cut at each place, and with each value of
+// each byte.
 #[test]
 fn every_cut_and_every_changed_byte_is_damage(rt: HostRuntime) -> Result<(), Fail> {
     let alloc = rt.alloc();
@@ -130,7 +131,8 @@ fn record_at(place: usize) -> u32 {
     }
 }
 
-// The record of `b` with one byte changed. It is short only if the changed byte is one of the length of the body.
+// The record of `b` with one byte changed. It is short only if the changed byte is one of the
+// length of the body.
 #[test]
 fn a_changed_record_is_no_record(rt: HostRuntime) -> Result<(), Fail> {
     let alloc = rt.alloc();
@@ -192,8 +194,8 @@ fn the_first_damage_after_a_session_is_returned(rt: HostRuntime) -> Result<(), F
     Ok(())
 }
 
-// What a replay of four records returns if a replay of the three that are there returned this: a bad record comes before
-// a recipe.
+// What a replay of four records returns if a replay of the three that are there returned this: a
+// bad record comes before a recipe.
 fn with_one_missing(given: Result<u32, BookFault>) -> Result<u32, BookFault> {
     match given {
         Err(BookFault::Damaged(Damage::Record(_))) => given,

@@ -1,5 +1,5 @@
-//! The book of a store: the records of its ingests and drops, as bytes. It uses the definitions of `sd_base`, and `sha2`
-//! for the digests (FIPS 180-4). All rules here are this project's own.
+//! The book of a store: the records of its ingests and drops, as bytes. It uses the definitions of
+//! `sd_base`, and `sha2` for the digests (FIPS 180-4). All rules here are this project's own.
 #![tactic(auto)]
 
 mod book;

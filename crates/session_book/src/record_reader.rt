@@ -103,8 +103,8 @@ fn read_chunk(bytes: &[u8]) -> Result<(NewChunk, &[u8]), Stop>
     Ok((NewChunk { length, name }, rest))
 }
 
-// An empty list with room for a number of items of a length, but for no more than the bytes can hold: a count that is
-// stated is not trusted.
+// An empty list with room for a number of items of a length, but for no more than the bytes can
+// hold: a count that is stated is not trusted.
 fn list_for<T>(
     alloc: Global,
     count: u32,

@@ -11,8 +11,8 @@ use sd_base::{
 use sha2::{Digest, Sha256};
 use std::alloc::{AllocError, Global};
 
-/// The one spelling of a record whose lists are within the limits. Such a record is of the grammar, so `next_record`
-/// reads it again. It fails only if memory runs out.
+/// The one spelling of a record whose lists are within the limits. Such a record is of the grammar,
+/// so `next_record` reads it again. It fails only if memory runs out.
 #[tactic(auto, unfolding(sd_base::specs::Records::spelling_of))]
 pub fn encode_record(alloc: Global, entry: &Record) -> Result<Vec<u8>, OutOfMemory>
     requires { IsWithinLimits entry.now }
@@ -99,7 +99,8 @@ fn chunks_len(chunks: &[NewChunk]) -> usize
     size
 }
 
-// Numbers are below the limit of their type: the grammar asks it, and the prover knows it of numbers that a call is given.
+// Numbers are below the limit of their type: the grammar asks it, and the prover knows it of
+// numbers that a call is given.
 fn numbers_fit(length: u32, entries: &[u32])
     ensures one { length < 2 ^ 32 }
     ensures each { All (λ n. n < 2 ^ 32) entries.now }

@@ -19,14 +19,15 @@ pub enum BookFault {
 }
 
 impl Book {
-    /// The book of the first `records` records of bytes, of which none has a chunk longer than `max` bytes. The bytes
-    /// after them are not looked at.
+    /// The book of the first `records` records of bytes, of which none has a chunk longer than
+    /// `max` bytes. The bytes after them are not looked at.
     pub fn replay(alloc: Global, bytes: &[u8], records: u64, max: u32) -> Result<Book, BookFault>
         // A book is returned exactly if that many records stand there and no recipe fails.
         ensures whole { UnlessOutOfMemory result ((book : BookState) →
             (result ≡ Ok book) ↔ IsReplay max bytes.now records book) }
 
-        // A damage is returned exactly if it is the first: of the records, or of the recipes if no record is bad.
+        // A damage is returned exactly if it is the first: of the records, or of the recipes if no
+        // record is bad.
         ensures damaged { UnlessOutOfMemory result ((damage : Damage) →
             (result ≡ Err (BookFault.Damaged damage)) ↔ IsBookDamage max bytes.now records damage) }
     {
@@ -61,8 +62,8 @@ fn read_book(alloc: Global, bytes: &[u8], records: u64, max: u32) -> Result<Book
     Ok(book)
 }
 
-// Adds the record at the front of bytes to a book, and returns the bytes after it; nothing, if no record stands there
-// that may follow.
+// Adds the record at the front of bytes to a book, and returns the bytes after it; nothing, if no
+// record stands there that may follow.
 fn take_record<'a>(
     alloc: Global,
     book: &mut Book,

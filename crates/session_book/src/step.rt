@@ -21,8 +21,8 @@ pub enum Step {
     Bad,
 }
 
-/// The record at the front of bytes. It fails only if memory runs out, and only on bytes that begin with a kind, a body
-/// and their digest.
+/// The record at the front of bytes. It fails only if memory runs out, and only on bytes that begin
+/// with a kind, a body and their digest.
 pub fn next_record(alloc: Global, bytes: &[u8]) -> Result<Step, OutOfMemory>
     // A record is found exactly if the first bytes are its spelling.
     ensures whole { IfOk result (λ step. (entry : Record) (k : ℕ) →

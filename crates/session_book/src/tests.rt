@@ -110,11 +110,14 @@ fn an_ingest_has_its_one_spelling(rt: HostRuntime) -> Result<(), Fail> {
         length: 8,
         name: fewer,
     };
-    assert_eq!(rt;
-        entry.fresh.into_vec().as_slice(),
-        [first, second].as_slice()
-    );
-    assert_eq!(rt; entry.recipe.into_vec().as_slice(), [0, 0, 0, 1].as_slice());
+    let fresh = entry.fresh.into_vec();
+    let recipe = entry.recipe.into_vec();
+    assert_eq!(rt; fresh.as_slice(), [first, second].as_slice());
+    assert_eq!(rt; recipe.as_slice(), [0, 0, 0, 1].as_slice());
+
+    // A list takes no memory for items that the bytes do not hold.
+    assert_eq!(rt; fresh.capacity(), 2);
+    assert_eq!(rt; recipe.capacity(), 4);
     Ok(())
 }
 
