@@ -1,4 +1,5 @@
-//! The program: gathers the words, runs the tool over the standard streams, and ends with the outcome's note and status.
+//! The program: gathers the words, runs the tool over the standard streams, and ends with the
+//! outcome's note and status.
 #![tactic(auto)]
 
 use backup_top::{BadKind, BadWords, Outcome, note_of, run, status_of};

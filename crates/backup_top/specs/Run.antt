@@ -1,7 +1,9 @@
--- What a run does: how it ends, what it writes, and what it leaves of its devices. All rules here are this project's own.
+-- What a run does: how it ends, what it writes, and what it leaves of its devices. All rules here
+-- are this project's own.
 --
--- `IsRun` holds of every run. What depends on the command are `LeavesSource` and `LeavesShelf`, with a case for each
--- command. Each takes the ghost functions of the devices, and the devices themselves before and after the run.
+-- `IsRun` holds of every run. What depends on the command are `LeavesSource` and `LeavesShelf`,
+-- with a case for each command. Each takes the ghost functions of the devices, and the devices
+-- themselves before and after the run.
 use Rattle.std.specs.Prelude.{◌≡◌, ◌⊎◌, ◌≤◌, ◌+◌, ⊤, ℕ, List, [], drop, Option, Result, Ok, Err, option_map, IfSome}
 use Rattle.edge_traits.specs.Faults.{Rose}
 use Rattle.edge_traits.specs.Sink.{Appends, AppendsPrefix}
@@ -16,11 +18,13 @@ use Rattle.sd_base.specs.declared.words.Quiet.TheVariants.{Plan}
 use Rattle.sd_base.specs.declared.outcome.Outcome.{Outcome}
 use Rattle.sd_base.specs.declared.outcome.Outcome.TheVariants.{Done, BadWords, BadParams, InputTooLong, SourceFault, SinkFault, OutOfMemory}
 
--- The bytes may be the input of a run: they are what the source had left, if the source is observable.
+-- The bytes may be the input of a run: they are what the source had left, if the source is
+-- observable.
 abbrev pub IsInputOf : Option (List ℕ) → List ℕ → Type 0
 IsInputOf left input = IfSome left (λ held. input ≡ held)
 
--- A run may end so: with the fault of a device that failed, out of memory, or else as the definition expects.
+-- A run may end so: with the fault of a device that failed, out of memory, or else as the
+-- definition expects.
 abbrev pub EndsAs : Outcome → Type 0 → Type 0 → Outcome → Type 0
 EndsAs expected source_failed sink_failed SourceFault = source_failed
 EndsAs expected source_failed sink_failed SinkFault = sink_failed
@@ -30,7 +34,8 @@ EndsAs expected source_failed sink_failed (BadWords bad) = BadWords bad ≡ expe
 EndsAs expected source_failed sink_failed (BadParams kind) = BadParams kind ≡ expected
 EndsAs expected source_failed sink_failed InputTooLong = InputTooLong ≡ expected
 
--- On Done the whole text was written, after a failed write or out of memory a prefix of it, and otherwise nothing.
+-- On Done the whole text was written, after a failed write or out of memory a prefix of it, and
+-- otherwise nothing.
 abbrev pub Writes : Outcome → List ℕ → Option (List ℕ) → Option (List ℕ) → Type 0
 Writes Done text before after = Appends before after text
 Writes SinkFault text before after = AppendsPrefix before after text
@@ -60,7 +65,8 @@ IsSilent (BadParams kind) = ⊤
 IsSilent InputTooLong = ⊤
 IsSilent SourceFault = ⊤
 
--- A device failed in a run: its count of faults rose, and it was not known that it would not fail any more.
+-- A device failed in a run: its count of faults rose, and it was not known that it would not fail
+-- any more.
 pub record HasFailed (faultless : Type 0) (before after : ℕ) : Type 0 where
   pub rose : Rose before after
   pub may_fail : faultless → ⊥
@@ -73,11 +79,14 @@ pub record CountsFaults {D : Type 0} (faults : D → ℕ) (faultless : D → Typ
   pub counts_none : faultless before → faults after ≡ faults before
   pub stays_faultless : faultless before → faultless after
 
--- How a run on one input ends and what it writes, from the pass that the definition has for this input.
+-- How a run on one input ends and what it writes, from the pass that the definition has for this
+-- input.
 pub record IsRunOn {K : Type 0} (pass : Pass) (outcome : Outcome) (source_failed sink_failed : Type 0) (written_to : K → Option (List ℕ)) (before after : K) : Type 0 where
-  -- The outcome is that of the definition, or the fault of a device that failed in this run, or out of memory.
+  -- The outcome is that of the definition, or the fault of a device that failed in this run, or out
+  -- of memory.
   pub answer : EndsAs pass.outcome source_failed sink_failed outcome
-  -- Bad words and bad parameters are always refused, whatever the devices do and whether there is memory.
+  -- Bad words and bad parameters are always refused, whatever the devices do and whether there is
+  -- memory.
   pub refused : IsEarly pass.outcome → outcome ≡ pass.outcome
   -- The sink received the text of the definition, as `Writes` says.
   pub written : Writes outcome pass.text (written_to before) (written_to after)
@@ -86,8 +95,8 @@ pub record IsRunOn {K : Type 0} (pass : Pass) (outcome : Outcome) (source_failed
 
 -- Every run: `pass` is the definition's pass for each input.
 pub record IsRun {R K : Type 0} (pass : List ℕ → Pass) (outcome : Outcome) (left : R → Option (List ℕ)) (read_faults : R → ℕ) (source_faultless : R → Type 0) (source_before source_after : R) (written_to : K → Option (List ℕ)) (write_faults : K → ℕ) (sink_faultless : K → Type 0) (sink_before sink_after : K) : Type 0 where
-  -- There is an input, which is the source's bytes if the source is observable, and the run is that of the definition on
-  -- it.
+  -- There is an input, which is the source's bytes if the source is observable, and the run is that
+  -- of the definition on it.
   pub on_some_input :
       (input : List ℕ) × IsInputOf (left source_before) input
       × IsRunOn (pass input) outcome
@@ -97,7 +106,8 @@ pub record IsRun {R K : Type 0} (pass : List ℕ → Pass) (outcome : Outcome) (
   -- What the devices count.
   pub source_counts : CountsFaults read_faults source_faultless source_before source_after
   pub sink_counts : CountsFaults write_faults sink_faultless sink_before sink_after
-  -- After bad words, bad parameters, an input that is too long and a failed read the sink is as it was.
+  -- After bad words, bad parameters, an input that is too long and a failed read the sink is as it
+  -- was.
   pub silent : IsSilent outcome → sink_after ≡ sink_before
   -- After bad words and bad parameters the source is as it was.
   pub untouched : IsEarly outcome → source_after ≡ source_before

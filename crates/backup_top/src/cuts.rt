@@ -9,8 +9,9 @@ use sd_base::{OutOfMemory, Params};
 use segment_scan::scan_range;
 use std::alloc::Global;
 
-/// The cuts of an input, in order, in two stages after SS-CDC (SYSTOR 2019): a scan marks the candidates in a map, and a
-/// walk over the map applies the minimum and the maximum. It fails only if memory runs out.
+/// The cuts of an input, in order, in two stages after SS-CDC (SYSTOR 2019): a scan marks the
+/// candidates in a map, and a walk over the map applies the minimum and the maximum. It fails only
+/// if memory runs out.
 pub fn cuts_of_text(alloc: Global, params: &Params, text: &[u8]) -> Result<Vec<u32>, OutOfMemory>
     requires { length text.now ≤ 2 ^ 28 }
     ensures { IfOk result (λ cuts. cuts.items ≡ cuts_of (numbers_of params.now) text.now) }

@@ -9,9 +9,10 @@ use sd_base::Outcome;
 use std::alloc::Global;
 use std::thread::Threads;
 
-/// Runs the words on an input in memory, and returns how the run ended and the sink that it wrote to. Neither the source
-/// nor the sink fails: so, whatever the words and the input, the outcome and the written bytes are those of the one-pass
-/// definition, or memory ran out and a prefix of its text was written.
+/// Runs the words on an input in memory, and returns how the run ended and the sink that it wrote
+/// to. Neither the source nor the sink fails: so, whatever the words and the input, the outcome and
+/// the written bytes are those of the one-pass definition, or memory ran out and a prefix of its
+/// text was written.
 pub fn run_in_memory<H: Threads + Sync>(
     rt: &H,
     alloc: Global,

@@ -1,4 +1,5 @@
-//! The keys of a command, and the values that words of the form KEY=VALUE set them to. Nothing here takes memory.
+//! The keys of a command, and the values that words of the form KEY=VALUE set them to. Nothing here
+//! takes memory.
 
 ghost use Rattle.std.specs.Prelude.{◌≡◌, ◌+◌, ◌^◌, ◌<◌, ◌≤◌, [], length, true, false, nat_lt, option_map, MatchOption};
 ghost use Rattle.std.specs.Char.{digit_value};
@@ -50,8 +51,8 @@ pub struct Key {
     pub greatest: u64,
 }
 
-/// The first word that fails, of those after the command. Each word before it sets a key of its own, so its place is at
-/// most one more than the number of keys.
+/// The first word that fails, of those after the command. Each word before it sets a key of its
+/// own, so its place is at most one more than the number of keys.
 pub fn first_bad_word(keys: &[Key], words: &[String]) -> Option<BadWords>
     requires { length keys.now + 1 < 2 ^ 32 }
     ensures { result ≡ first_bad_word_of (key_specs_of keys.now) [] 1 (texts_of words.now) }

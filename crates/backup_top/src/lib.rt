@@ -1,7 +1,7 @@
-//! The top of the tool: reads the words, runs the command that they name, and says how the run ended. It uses the
-//! definitions of `sd_base` and the devices of `edge_traits`. It cuts by `segment_scan` and `cut_walk`, with the windows
-//! of `rabin_window` and the maps of `candidate_map`, and names chunks by `chunk_names`. All rules here are this project's
-//! own.
+//! The top of the tool: reads the words, runs the command that they name, and says how the run
+//! ended. It uses the definitions of `sd_base` and the devices of `edge_traits`. It cuts by
+//! `segment_scan` and `cut_walk`, with the windows of `rabin_window` and the maps of
+//! `candidate_map`, and names chunks by `chunk_names`. All rules here are this project's own.
 #![tactic(auto)]
 
 mod cuts;

@@ -20,8 +20,8 @@ pub fn status_of(outcome: &Outcome) -> u8
     }
 }
 
-/// The note of an outcome: a line for standard error, with its line feed, or nothing if all is done. It fails only if
-/// memory runs out.
+/// The note of an outcome: a line for standard error, with its line feed, or nothing if all is
+/// done. It fails only if memory runs out.
 pub fn note_of(alloc: Global, outcome: &Outcome) -> Result<String, OutOfMemory>
     ensures { IfOk result (λ text. string_bytes text ≡ note outcome.now) }
 {

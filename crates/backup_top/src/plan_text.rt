@@ -6,7 +6,8 @@ use chunk_names::{Namer, Sha256Namer, hex_of};
 use sd_base::OutOfMemory;
 use std::alloc::Global;
 
-/// The text of `plan`: a line for each chunk of an input, in order. It fails only if memory runs out.
+/// The text of `plan`: a line for each chunk of an input, in order. It fails only if memory runs
+/// out.
 pub fn text_of_plan(alloc: Global, input: &[u8], cuts: &[u32]) -> Result<String, OutOfMemory>
     requires { RiseWithin 0 (length input.now) cuts.now }
     ensures { IfOk result (λ lines. string_bytes lines ≡ plan_text (chunks_between input.now 0 cuts.now)) }

@@ -1,5 +1,5 @@
-//! The reference implementation of cutting, with which the fast one is compared: at each position where a chunk may end the
-//! whole window is divided anew.
+//! The reference implementation of cutting, with which the fast one is compared: at each position
+//! where a chunk may end the whole window is divided anew.
 
 ghost use Rattle.std.specs.Prelude.{◌≡◌, ◌<◌, ◌≤◌, ◌^◌, IfOk, length};
 ghost use Rattle.sd_base.specs.Cutting.{cuts_of, next_cut};
@@ -9,8 +9,9 @@ use rabin_window::{Tables, Window};
 use sd_base::{OutOfMemory, Params, WINDOW};
 use std::alloc::Global;
 
-/// The cuts of an input, in order, found by plain division. Its contract is that of the implementation that `plan` runs.
-/// It is a reference, and slow. It fails only if memory runs out. After LBFS (SOSP 2001, section 3.1).
+/// The cuts of an input, in order, found by plain division. Its contract is that of the
+/// implementation that `plan` runs. It is a reference, and slow. It fails only if memory runs out.
+/// After LBFS (SOSP 2001, section 3.1).
 pub fn plain_cuts(alloc: Global, params: &Params, input: &[u8]) -> Result<Vec<u32>, OutOfMemory>
     requires { length input.now ≤ 2 ^ 28 }
     ensures { IfOk result (λ cuts. cuts.items ≡ cuts_of (numbers_of params.now) input.now) }

@@ -12,11 +12,13 @@ use sd_base::{Command, Outcome, Quiet};
 use std::alloc::Global;
 use std::thread::Threads;
 
-/// Runs the command that the words name, reading from `source`, writing to `sink`, over the files of `shelf`: the whole
-/// of the tool. The words are those of the command line after the path of the store.
+/// Runs the command that the words name, reading from `source`, writing to `sink`, over the files
+/// of `shelf`: the whole of the tool. The words are those of the command line after the path of the
+/// store.
 ///
-/// Whatever the words, the input, the cutting of its reads and the devices, the outcome and the written bytes are those of
-/// the one-pass definition, except for a fault that a device counted in this call and for running out of memory.
+/// Whatever the words, the input, the cutting of its reads and the devices, the outcome and the
+/// written bytes are those of the one-pass definition, except for a fault that a device counted in
+/// this call and for running out of memory.
 pub fn run<H: Threads + Sync, R: Source, K: Sink, F: Shelf>(
     rt: &H,
     alloc: Global,

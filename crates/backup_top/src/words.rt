@@ -11,8 +11,8 @@ use sd_base::{
 #[cfg(test)]
 mod tests;
 
-/// Reads the words of the command line, without the path of the store: returns the command that they name, or the first
-/// word that fails. It takes no memory.
+/// Reads the words of the command line, without the path of the store: returns the command that
+/// they name, or the first word that fails. It takes no memory.
 pub fn read_words(words: &[String]) -> Result<Command, BadWords>
     ensures { result ≡ command_of (texts_of words.now) }
 {
@@ -56,7 +56,8 @@ fn params_of(words: &[String]) -> RawParams
     }
 }
 
-// The keys that set parameters. Each number of 32 bits is read, and `Params::new` refuses those out of its range.
+// The keys that set parameters. Each number of 32 bits is read, and `Params::new` refuses those out
+// of its range.
 const PARAMS_KEYS: [Key; 5] = [POLYNOMIAL, BITS, TARGET, MIN, MAX];
 
 const POLYNOMIAL: Key = Key {

@@ -18,8 +18,8 @@ pub trait Sink: Send {
     ghost faultless: { Self → Type 0 };
 
     /// Takes some bytes from the front of the piece and returns how many: at least one of a piece
-    /// that is not empty. `Failed` comes only if the device's count of faults rose in the call. A
-    /// refused call has written nothing.
+    /// that is not empty. `Failed` comes only if the device's count of faults rose in the call. After
+    /// a refusal `written` is as it was.
     fn write(&mut self, bytes: &[u8]) -> Result<usize, EdgeFault>
         ensures bound { IfOk result (λ k. k ≤ length bytes.now) }
         ensures progress { IfOk result (λ k. 0 < length bytes.now → 1 ≤ k) }

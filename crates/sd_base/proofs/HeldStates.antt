@@ -32,7 +32,8 @@ AllIngests P [] = Unit {0}
 AllIngests P (ingested name chunks ∷ events) = P chunks × AllIngests P events
 AllIngests P (dropped k ∷ events) = AllIngests P events
 
--- what holds of chunks of each of these sessions holds of those of all but the last, and of the last
+-- what holds of chunks of each of these sessions holds of those of all but the last, and of the
+-- last
 all_but_last : (P : StoredSession → Type 0) (xs : List StoredSession) (s : StoredSession) → AllByRecursion P (xs ++ s ∷ []) → AllByRecursion P xs × P s
 all_but_last P [] s all = (tt, all.0)
 all_but_last P (x ∷ xs) s all = let rest = all_but_last P xs s all.1 in ((all.0, rest.0), rest.1)

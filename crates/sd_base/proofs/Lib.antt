@@ -1,4 +1,5 @@
--- In reading order. `laws/`, `state_laws/` and `name/` have the answers of single functions, which cite these.
+-- In reading order. `laws/`, `state_laws/` and `name/` have the answers of single functions, which
+-- cite these.
 
 -- what the next cut is, and how a list of cuts or chunks goes on from one of them
 pub mod Cutting

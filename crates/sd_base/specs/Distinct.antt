@@ -1,5 +1,5 @@
--- Distinct chunks of a list, in order of first occurrence. Two chunks are the same if their bytes are equal: no name of a
--- chunk enters.
+-- Distinct chunks of a list, in order of first occurrence. Two chunks are the same if their bytes
+-- are equal: no name of a chunk enters.
 use Rattle.std.specs.Prelude.{◌≡◌, ℕ, Bool, false, not, List, [], ◌∷◌}
 use Rattle.std.specs.List.{filter, list_any, position_or_len}
 use Rattle.std.specs.Str.{bytes_eq}

@@ -1,4 +1,5 @@
--- Words of the form KEY=VALUE after a command. A word is cut at its first `=`. All rules here are this project's own.
+-- Words of the form KEY=VALUE after a command. A word is cut at its first `=`. All rules here are
+-- this project's own.
 use Rattle.std.specs.Prelude.{ℕ, ◌+◌, ◌==◌, ◌&&◌, ◌||◌, not, nat_lt, nat_le, Bool, true, false, is_some, if◌then◌else◌, List, [], ◌∷◌, ◌++◌, length, slice_index, Option, Some, None, unwrap_or}
 use Rattle.std.specs.Char.{digit_value}
 use Rattle.std.specs.List.{find, list_any, list_all, before_first, after_first}
@@ -9,7 +10,8 @@ use Rattle.sd_base.specs.declared.words.BadKind.{BadKind}
 use Rattle.sd_base.specs.declared.words.BadKind.TheVariants.{Key as NoKey, Twice, Value}
 use Rattle.sd_base.specs.declared.words.BadWords.{BadWords}
 
--- a key: its name, the base and the most digits of its values, and the least and the greatest of them
+-- a key: its name, the base and the most digits of its values, and the least and the greatest of
+-- them
 pub record Key : Type 0 where
   pub name : List ℕ
   pub base : ℕ

@@ -1,5 +1,5 @@
--- The outcome and the text of a run, from its words and its input alone. No worker, segment, size of a read or order of
--- steps enters. All rules here are this project's own.
+-- The outcome and the text of a run, from its words and its input alone. No worker, segment, size
+-- of a read or order of steps enters. All rules here are this project's own.
 use Rattle.std.specs.Prelude.{ℕ, nat_lt, List, [], length, Option, Some, None, Result, Ok, Err, if◌then◌else◌}
 use Rattle.sd_base.specs.Cutting.{chunks_of}
 use Rattle.sd_base.specs.Parameters.{bad_parameter}

@@ -5,7 +5,8 @@ use Rattle.sd_base.specs.States.{State, StoredSession}
 use Rattle.sd_base.specs.Stores.{ingest_record, records_of}
 use Rattle.sd_base.specs.declared.record.Session.{Session}
 
--- a session as the book has it: `stored` are the chunks of the whole state, `before` those of all earlier sessions
+-- a session as the book has it: `stored` are the chunks of the whole state, `before` those of all
+-- earlier sessions
 abbrev pub book_session : (List ℕ → List ℕ) → List (List ℕ) → List (List ℕ) → StoredSession → Session
 book_session name_of stored before session =
     record { entry = ingest_record name_of stored before session.name session.chunks; live = session.live }

@@ -19,7 +19,8 @@ DistinctChunksAreThoseOfTheList =
 abbrev pub DistinctChunksDiffer : Type 0
 DistinctChunksDiffer = (chunks : List (List ℕ)) → AreDifferent (distinct chunks)
 
--- if chunks are added at the end of a list, its distinct chunks stay, and the new ones come after them
+-- if chunks are added at the end of a list, its distinct chunks stay, and the new ones come after
+-- them
 abbrev pub DistinctChunksOnlyGrow : Type 0
 DistinctChunksOnlyGrow =
     (chunks more : List (List ℕ)) → distinct (chunks ++ more) ≡ distinct chunks ++ new_chunks chunks more
@@ -60,7 +61,7 @@ abbrev pub RowsAreThoseOfTheBook : Type 0
 RowsAreThoseOfTheBook =
     (name_of : List ℕ → List ℕ) (state : State) → rows_of_book (book_of_state name_of state) ≡ rows_of_state state
 
--- files that hold a lawful state open as its book, so they are never found damaged
+-- files that hold a lawful state open as its book
 abbrev pub HeldStatesOpen : Type 0
 HeldStatesOpen =
     (name_of : List ℕ → List ℕ) (files : File → List ℕ) (state : State) →

@@ -1,5 +1,5 @@
--- The states of a store: what was done to it, as a finite list of events. A state has its chunks as bytes: no
--- name of a chunk enters, and no file.
+-- The states of a store: what was done to it, as a finite list of events. A state has its chunks as
+-- bytes: no name of a chunk enters, and no file.
 use Rattle.std.specs.Prelude.{◌≡◌, ℕ, zero, suc, ◌+◌, ◌^◌, ◌<◌, ◌≤◌, ◌&&◌, Bool, true, false, IsTrue, if◌then◌else◌, List, [], ◌∷◌, ◌++◌, length, map, Option, None, unwrap_or, option_map}
 use Rattle.std.specs.List.{All, concat, fold, position, slice_get}
 use Rattle.std.specs.Str.{bytes_eq}
@@ -10,8 +10,8 @@ use Rattle.sd_base.specs.Parameters.{IsValid}
 use Rattle.sd_base.specs.declared.limits.TheConstants.{MAX_CHUNKS, MAX_GENERATION, MAX_PLACES, MAX_SESSIONS}
 use Rattle.sd_base.specs.declared.raw_params.RawParams.{RawParams}
 
--- what was done to a store: these chunks were taken in under a name, or the session of a number was dropped. Sessions are
--- numbered from 0 in the order in which they were taken in.
+-- what was done to a store: these chunks were taken in under a name, or the session of a number was
+-- dropped. Sessions are numbered from 0 in the order in which they were taken in.
 pub data Event : Type 0 where
   ingested : List ℕ → List (List ℕ) → Event
   dropped : ℕ → Event
@@ -22,7 +22,8 @@ pub record State : Type 0 where
   pub generation : ℕ
   pub events : List Event
 
--- a session of a state: its name, its chunks in the order of its bytes, and whether no later event drops it
+-- a session of a state: its name, its chunks in the order of its bytes, and whether no later event
+-- drops it
 pub record StoredSession : Type 0 where
   pub name : List ℕ
   pub chunks : List (List ℕ)
@@ -82,7 +83,8 @@ live_numbers k (session ∷ sessions) = if session.live then k ∷ live_numbers 
 abbrev pub live_sessions : State → List ℕ
 live_sessions state = live_numbers 0 (sessions_in state)
 
--- an event that may follow these sessions: an ingest under a name that no live session has, or a drop of a live session
+-- an event that may follow these sessions: an ingest under a name that no live session has, or a
+-- drop of a live session
 abbrev pub MayHappen : List StoredSession → Event → Type 0
 MayHappen sessions (ingested name chunks) = IsName name × (live_session_named sessions name ≡ None)
 MayHappen sessions (dropped k) = IsTrue (is_live_in sessions k)

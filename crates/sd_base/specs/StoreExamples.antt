@@ -1,5 +1,6 @@
--- Worked examples of a store, each computed by the checker: 200 zeros taken in as `a` and once more as `b`, cut by
--- parameters under which every window of zeros is a match and a chunk has 64 to 256 bytes.
+-- Worked examples of a store, each computed by the checker: 200 zeros taken in as `a` and once
+-- more as `b`, cut by parameters under which every window of zeros is a match and every chunk
+-- except the last has 64 to 256 bytes.
 use Rattle.std.specs.Prelude.{◌≡◌, ℕ, List, [], ◌∷◌, ◌++◌, length, map, drop, replicate, codes}
 use Rattle.std.specs.Int.Count.{count_leading_zeros}
 use Rattle.std.specs.Fmt.{digits}

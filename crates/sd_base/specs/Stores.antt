@@ -1,4 +1,5 @@
--- When the files of a store hold a state. Files are a function from a file to its bytes: a file that is not there is empty.
+-- When the files of a store hold a state. Files are a function from a file to its bytes: a file
+-- that is not there is empty.
 use Rattle.std.specs.Prelude.{◌≡◌, ℕ, ◌+◌, ◌<◌, ◌==◌, if◌then◌else◌, List, [], ◌∷◌, ◌++◌, length, map, take, replicate, slice_index_or, Option, Some, None}
 use Rattle.std.specs.List.{concat}
 use Rattle.sd_base.specs.Books.{book_of}
@@ -23,7 +24,8 @@ GivesNames name_of = (bytes : List ℕ) → length (name_of bytes) ≡ DIGEST_LE
 abbrev pub named : (List ℕ → List ℕ) → List ℕ → NewChunk
 named name_of chunk = record { length = length chunk; name = name_of chunk }
 
--- the record of an ingest: `stored` are the chunks of the whole state, `before` those of all earlier ingests
+-- the record of an ingest: `stored` are the chunks of the whole state, `before` those of all
+-- earlier ingests
 abbrev pub ingest_record : (List ℕ → List ℕ) → List (List ℕ) → List (List ℕ) → List ℕ → List (List ℕ) → IngestRecord
 ingest_record name_of stored before name chunks = record {
   name = name;
@@ -51,7 +53,8 @@ records_of name_of state = records_from name_of (stored_chunks state) [] state.e
 abbrev pub IsFrontOf : List ℕ → List ℕ → Type 0
 IsFrontOf front bytes = (tail : List ℕ) × (bytes ≡ front ++ tail)
 
--- The files hold a state, with chunks named by `name_of`. Bytes after the committed ones do not matter, nor do other files.
+-- The files hold a state, with chunks named by `name_of`. Bytes after the committed ones do not
+-- matter, nor do other files.
 pub record HoldState (name_of : List ℕ → List ℕ) (files : File → List ℕ) (state : State) : Type 0 where
   pub settings : take SETTINGS_LEN (files Head) ≡ settings_of state.params
   pub generation : length (files Head) ≡ OPEN_HEAD_LEN + state.generation
@@ -77,8 +80,8 @@ files_of name_of state (Book g) = if g == state.generation then book_of (records
 files_of name_of state (Container g k) =
     if g == state.generation then slice_index_or (packing (stored_chunks state)) k [] else []
 
--- A file has its committed bytes and no more: none, if it is no part of the state. Of the head and of a seal the number of
--- bytes counts alone.
+-- A file has its committed bytes and no more: none, if it is no part of the state. Of the head and
+-- of a seal the number of bytes counts alone.
 abbrev pub IsCommittedAlone : (List ℕ → List ℕ) → State → File → List ℕ → Type 0
 IsCommittedAlone name_of state Head bytes = length bytes ≡ length (files_of name_of state Head)
 IsCommittedAlone name_of state (Seal g) bytes = length bytes ≡ length (files_of name_of state (Seal g))

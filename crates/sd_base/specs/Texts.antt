@@ -1,5 +1,6 @@
--- The texts that commands print, as bytes. Fields are separated by one space, a line ends with a line feed, and numbers
--- are decimal with no leading zeros. Defined by this project; names of chunks are SHA-256 (FIPS 180-4) in hexadecimal.
+-- The texts that commands print, as bytes. Fields are separated by one space, a line ends with a
+-- line feed, and numbers are decimal with no leading zeros. Names of chunks are SHA-256 (FIPS
+-- 180-4) in hexadecimal.
 use Rattle.std.specs.Prelude.{ℕ, ◌+◌, List, [], ◌∷◌, ◌++◌, length, codes}
 use Rattle.std.specs.Fmt.{decimal}
 use Rattle.std.specs.List.{flat_map}
@@ -28,7 +29,8 @@ plan_text chunks = plan_lines 0 chunks
 abbrev pub ready_text : List ℕ
 ready_text = codes "ready" ++ 10 ∷ []
 
--- the text of an ingest: the name of the session, the number of its bytes, of its places and of its new chunks
+-- the text of an ingest: the name of the session, the number of its bytes, of its places and of its
+-- new chunks
 abbrev pub ingested_text : List ℕ → ℕ → ℕ → ℕ → List ℕ
 ingested_text name bytes places fresh =
     codes "ingested " ++ name ++ 32 ∷ [] ++ decimal bytes ++ codes " bytes " ++ decimal places ++ codes " places "

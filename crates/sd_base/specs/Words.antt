@@ -1,4 +1,4 @@
--- The words of the command line, as lists of bytes, and the command that they name. Defined by this project.
+-- The words of the command line, as lists of bytes, and the command that they name.
 use Rattle.std.specs.Prelude.{ℕ, ◌-◌, ◌^◌, List, [], ◌∷◌, codes, Option, Some, None, Result, Ok, Err, if◌then◌else◌}
 use Rattle.std.specs.Str.{bytes_eq}
 use Rattle.sd_base.specs.Keys.{Key, decimal_key, first_bad_word, value_or_default}
@@ -10,8 +10,8 @@ use Rattle.sd_base.specs.declared.words.Quiet.TheVariants.{Plan}
 use Rattle.sd_base.specs.declared.words.Command.{Command}
 use Rattle.sd_base.specs.declared.words.Command.TheVariants.{Quiet}
 
--- The parameters of cutting if none are given. The number of bits, the minimum and the maximum are those of LBFS (SOSP
--- 2001, section 3.1); the polynomial and the target are this project's own.
+-- The parameters of cutting if none are given. The number of bits, the minimum and the maximum are
+-- those of LBFS (SOSP 2001, section 3.1); the polynomial and the target are this project's own.
 abbrev pub default_params : RawParams
 default_params = record { polynomial = 0x3DA3358B4DC173; bits = 13; target = 120; min = 2048; max = 65536 }
 

@@ -2,7 +2,7 @@
 /// Records, sessions, places, containers and chunks are counted from 0.
 ///
 /// So far only a book is checked: a replay returns `Record` or `Recipe`, and nothing returns the
-/// other variants yet. They are for the files that hold the settings and the chunks.
+/// other variants yet. They are for opening a whole store and for looking through it.
 #[derive(Clone, Copy, Debug, PartialEq, Eq)]
 pub enum Damage {
     /// The settings exist but are not those of valid parameters, or there are more than 65,535

@@ -3,10 +3,10 @@
 //! store and the records of its book. `specs/` has the definitions that contracts cite, one file a
 //! subject: what is cut, packed, recorded, read and printed, and how a run ends.
 //!
-//! All rules here are this project's own, except three, each named at its item. The window, the test
+//! All rules here are this project's own, except four, each named at its item. The window, the test
 //! of a fingerprint's low bits, a minimum and a maximum, and their defaults are those of LBFS (SOSP
 //! 2001, section 3.1). A fingerprint is Rabin's (Fingerprinting by Random Polynomials, 1981). The
-//! name of a chunk is its SHA-256 (FIPS 180-4).
+//! name of a chunk is its SHA-256 (FIPS 180-4). Chunks are packed by next fit.
 //!
 //! The crate uses no other crate of the project. Its definitions of printed text and of records use
 //! those of `sha2` and `hex`.

@@ -52,8 +52,8 @@ pub const SETTINGS_VERSION: u8 = 1;
 /// The method of cutting in a store's settings: Rabin's fingerprint.
 pub const METHOD_RABIN: u8 = 0;
 
-/// The byte that is appended to commit: to the head when a store is made and for each later generation, and to the seal
-/// for each record. A reader looks at the number of these bytes alone.
+/// The byte that is appended to commit: to the head when a store is made and for each later
+/// generation, and to the seal for each record. Only the number of these bytes means something.
 pub const COMMIT_BYTE: u8 = 0x53;
 
 /// Bytes of the longest name of a session: its length is one byte of a record.

@@ -1,7 +1,7 @@
 use crate::params::BadParams;
 use crate::words::BadWords;
 
-/// How a run ended. Defined by this project.
+/// How a run ended.
 #[derive(Clone, Copy, Debug, PartialEq, Eq)]
 pub enum Outcome {
     /// The command was carried out, and its whole text was written.

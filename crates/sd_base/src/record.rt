@@ -24,7 +24,7 @@ pub const AROUND_BODY: u32 = 1 + (NUMBER_LEN + DIGEST_LEN) as u32;
 pub struct NewChunk {
     /// Its number of bytes.
     pub length: u32,
-    /// Its name.
+    /// Its name, which is the SHA-256 of its bytes (FIPS 180-4) under the tool's own namer.
     pub name: [u8; 32],
 }
 

@@ -1,4 +1,5 @@
-//! Laws of states and of the files that hold them. Each is the contract of a function that does nothing.
+//! Laws of states and of the files that hold them. Each is the contract of a function that does
+//! nothing.
 
 ghost use Rattle.sd_base.specs.StateLaws.{DistinctChunksAreThoseOfTheList, DistinctChunksDiffer, DistinctChunksOnlyGrow, StoredChunksOnlyGrow, RecordsOnlyGrow, RecipesNameTheirChunks, SizesFollowFromLengths, EachStateHasItsFiles, HeldStatesOpen, RowsAreThoseOfTheBook};
 
@@ -9,7 +10,8 @@ pub fn distinct_chunks_are_each_once()
     ensures in_order { DistinctChunksOnlyGrow }
 {}
 
-/// A store only grows: one more event leaves the stored chunks and the records as they are, and adds after them.
+/// A store only grows: one more event leaves the stored chunks and the records as they are, and
+/// adds after them.
 pub fn stores_only_grow()
     ensures chunks { StoredChunksOnlyGrow }
     ensures records { RecordsOnlyGrow }
@@ -30,7 +32,8 @@ pub fn each_state_has_its_files()
     ensures { EachStateHasItsFiles }
 {}
 
-/// Files that hold a lawful state open as the book of its events, and `list` shows of that book what it shows of the state.
+/// Files that hold a lawful state open as the book of its events, and `list` shows of that book
+/// what it shows of the state.
 pub fn held_states_open()
     ensures opened { HeldStatesOpen }
     ensures rows { RowsAreThoseOfTheBook }

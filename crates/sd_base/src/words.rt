@@ -1,6 +1,6 @@
 use crate::raw_params::RawParams;
 
-/// What is wrong with a word. Defined by this project.
+/// What is wrong with a word.
 #[derive(Clone, Copy, Debug, PartialEq, Eq)]
 pub enum BadKind {
     /// A word is needed at the place, and there is none.
