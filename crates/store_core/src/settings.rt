@@ -1,5 +1,5 @@
 //! The settings of a store, as bytes.
-ghost use Rattle.std.specs.Prelude.{◌≡◌, IfSome, IfNone, ⊥};
+ghost use Rattle.std.specs.Prelude.{◌≡◌, IfSome, IfNone};
 ghost use Rattle.sd_base.specs.Params.{numbers_of};
 ghost use Rattle.sd_base.specs.Parameters.{IsValid};
 ghost use Rattle.sd_base.specs.Settings.{settings_of};
@@ -20,8 +20,38 @@ pub fn settings_of(params: &Params) -> [u8; SETTINGS_SIZE]
     let [n0, n1, n2, n3] = params.max.to_be_bytes();
     let (version, bits) = (SETTINGS_VERSION, params.bits as u8);
     [
-        b'S', b'S', b'C', b'H', version, METHOD_RABIN, bits, 0,
-        p0, p1, p2, p3, p4, p5, p6, p7, t0, t1, t2, t3, m0, m1, m2, m3, n0, n1, n2, n3, 0, 0, 0, 0,
+        b'S',
+        b'S',
+        b'C',
+        b'H',
+        version,
+        METHOD_RABIN,
+        bits,
+        0,
+        p0,
+        p1,
+        p2,
+        p3,
+        p4,
+        p5,
+        p6,
+        p7,
+        t0,
+        t1,
+        t2,
+        t3,
+        m0,
+        m1,
+        m2,
+        m3,
+        n0,
+        n1,
+        n2,
+        n3,
+        0,
+        0,
+        0,
+        0,
     ]
 }
 
@@ -44,8 +74,44 @@ pub(crate) fn read_settings(bytes: &[u8; SETTINGS_SIZE]) -> Option<Params>
 fn raw_params(bytes: &[u8; SETTINGS_SIZE]) -> RawParams
     ensures same { (raw : RawParams) → IsValid raw → bytes.now ≡ settings_of raw → result ≡ raw }
 {
-    let [_, _, _, _, _, _, bits, _, p0, p1, p2, p3, p4, p5, p6, p7, ..] = *bytes;
-    let [.., t0, t1, t2, t3, m0, m1, m2, m3, n0, n1, n2, n3, _, _, _, _] = *bytes;
+    let [
+        _,
+        _,
+        _,
+        _,
+        _,
+        _,
+        bits,
+        _,
+        p0,
+        p1,
+        p2,
+        p3,
+        p4,
+        p5,
+        p6,
+        p7,
+        ..
+    ] = *bytes;
+    let [
+        ..,
+        t0,
+        t1,
+        t2,
+        t3,
+        m0,
+        m1,
+        m2,
+        m3,
+        n0,
+        n1,
+        n2,
+        n3,
+        _,
+        _,
+        _,
+        _,
+    ] = *bytes;
     RawParams {
         polynomial: u64::from_be_bytes([p0, p1, p2, p3, p4, p5, p6, p7]),
         bits: u32::from(bits),
