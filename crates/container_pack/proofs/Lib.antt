@@ -10,3 +10,5 @@ pub mod PushLemmas
 pub mod ShelfLemmas
 -- the containers of a packer, after an append and after a refusal
 pub mod PackerLemmas
+-- the sizes of containers, chunk by chunk
+pub mod SizeLemmas

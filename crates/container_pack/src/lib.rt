@@ -13,12 +13,14 @@ mod fill;
 mod laws;
 mod packer;
 mod placing;
+mod sizing;
 mod spot;
 
 pub use chunk_reader::read_chunk;
 pub use laws::{chunks_lie_at_their_spots, containers_only_grow, packing_is_by_groups};
 pub use packer::Packer;
 pub use placing::places;
+pub use sizing::container_sizes;
 pub use spot::Spot;
 
 #[cfg(test)]

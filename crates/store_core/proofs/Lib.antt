@@ -1,1 +1,4 @@
 mod SettingsLemmas
+mod BookFiles
+mod OpeningLemmas
+mod StoreLemmas

@@ -1,3 +1,5 @@
 pub mod Faults
 pub mod Stores
 pub mod Heads
+pub mod BookFiles
+pub mod Containers

@@ -1,9 +1,10 @@
 ghost use Rattle.std.specs.Prelude.{◌≡◌};
-ghost use Rattle.store_core.specs.Faults.{store_fault_of};
+ghost use Rattle.store_core.specs.Faults.{store_fault_of, store_fault_of_book};
 ghost use Rattle.store_core.specs.declared.fault.StoreFault.TheVariants.{OutOfMemory as out_of_memory};
 
 use edge_traits::EdgeFault;
 use sd_base::{Damage, OutOfMemory};
+use session_book::BookFault;
 
 /// Why a call of the store was refused. What it left is said at the call.
 #[derive(Clone, Copy, Debug, PartialEq, Eq)]
@@ -49,5 +50,16 @@ impl From<OutOfMemory> for StoreFault {
 
     fn from(_: OutOfMemory) -> Self {
         StoreFault::OutOfMemory
+    }
+}
+
+impl From<BookFault> for StoreFault {
+    ghost from_gives = { λ fault answer. answer ≡ store_fault_of_book fault };
+
+    fn from(fault: BookFault) -> Self {
+        match fault {
+            BookFault::Damaged(damage) => StoreFault::Damaged(damage),
+            BookFault::OutOfMemory => StoreFault::OutOfMemory,
+        }
     }
 }

@@ -6,11 +6,18 @@
 //! what is first found wrong is named, in the order head, records, recipes, containers.
 #![tactic(auto)]
 
+mod book_file;
+mod containers;
 mod fault;
 mod head_file;
 mod new_store;
 mod settings;
+mod store;
 
 pub use fault::StoreFault;
 pub use new_store::init;
 pub use settings::settings_of;
+pub use store::Store;
+
+#[cfg(test)]
+mod tests;

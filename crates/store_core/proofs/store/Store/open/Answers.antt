@@ -1,0 +1,45 @@
+use Rattle.std.proofs.Common.{◌≡◌, ℕ, List, IfSome, ap, subst, ◌∙◌}
+use Rattle.sd_base.specs.Opening.{needed_sizes}
+use Rattle.sd_base.specs.Packing.{container_sizes}
+use Rattle.store_core.specs.Containers.{IsFirstShort}
+use Rattle.store_core.specs.Heads.{head_state}
+use Rattle.store_core.proofs.StoreLemmas.{committed-damage, container-damage, damaged-passed, head-damage, opened-as, same-told, HasBook, HasDamage, HasSizes, Told}
+use Rattle.store_core.proofs.store.Store.open.Goals as goal
+
+pub returns-in_err-head-clause-damaged : goal.returns-in_err-head-clause-damaged
+returns-in_err-head-clause-damaged g c = λ damage is.
+    head-damage (g.F.Shelf.files c.args.shelf.now) damage
+    (c.in_err-head.ensures.damaged damage (damaged-passed c.in_err-head.field-0.0 c.from_residual.result damage is c.from_residual.ensures.1))
+
+pub returns-in_err-book-clause-damaged : goal.returns-in_err-book-clause-damaged
+returns-in_err-book-clause-damaged g c = λ damage is.
+    let told = g.F.Shelf.files c.args.shelf.now in
+    let found = c.in_err-book.ensures.damaged damage (damaged-passed c.in_err-book.field-0.0 c.from_residual-in_err-book.result damage is c.from_residual-in_err-book.ensures.1) in
+    let same = same-told told (g.F.Shelf.files c.read_head.new.shelf) c.in_ok-head.ensures.same_files in
+    committed-damage told (head_state c.in_ok-head.head) damage c.in_ok-head.ensures.head
+    (subst (λ (files : Told). IfSome files (HasDamage (head_state c.in_ok-head.head) damage)) same found)
+
+pub returns-in_err-check_containers-clause-damaged : goal.returns-in_err-check_containers-clause-damaged
+returns-in_err-check_containers-clause-damaged g c = λ damage is.
+    let found = c.in_err-check_containers.ensures.damaged damage (damaged-passed c.in_err-check_containers.field-0.0 c.from_residual-in_err-check_containers.result damage is c.from_residual-in_err-check_containers.ensures.1) in
+    let told = g.F.Shelf.files c.args.shelf.now in
+    let head = head_state c.in_ok-head.head in
+    let first = same-told told (g.F.Shelf.files c.read_head.new.shelf) c.in_ok-head.ensures.same_files in
+    let second = same-told (g.F.Shelf.files c.read_head.new.shelf) (g.F.Shelf.files c.read_book.new.shelf) c.in_ok-book.ensures.same_files in
+    let sizes = ap container_sizes (c.deref.ensures.value ∙ c.in_ok-lengths.ensures.lengths) in
+    container-damage told head c.in_ok-book.book damage c.in_ok-head.ensures.head
+    (subst (λ (files : Told). IfSome files (HasBook head c.in_ok-book.book)) first c.in_ok-book.ensures.committed)
+    (subst (λ (files : Told). IfSome files (λ f. IsFirstShort f c.in_ok-head.head.generation (needed_sizes c.in_ok-book.book) damage)) (second ∙ first)
+    (subst (λ (ns : List ℕ). IfSome (g.F.Shelf.files c.read_book.new.shelf) (λ f. IsFirstShort f c.in_ok-head.head.generation ns damage)) sizes found))
+
+pub returns-clause-opened : goal.returns-clause-opened
+returns-clause-opened g c =
+    let told = g.F.Shelf.files c.args.shelf.now in
+    let head = head_state c.in_ok-head.head in
+    let first = same-told told (g.F.Shelf.files c.read_head.new.shelf) c.in_ok-head.ensures.same_files in
+    let second = same-told (g.F.Shelf.files c.read_head.new.shelf) (g.F.Shelf.files c.read_book.new.shelf) c.in_ok-book.ensures.same_files in
+    let sizes = ap container_sizes (c.deref.ensures.value ∙ c.in_ok-lengths.ensures.lengths) in
+    opened-as told head c.in_ok-book.book c.in_ok-head.ensures.head
+    (subst (λ (files : Told). IfSome files (HasBook head c.in_ok-book.book)) first c.in_ok-book.ensures.committed)
+    (subst (λ (files : Told). IfSome files (HasSizes c.in_ok-head.head.generation (needed_sizes c.in_ok-book.book))) (second ∙ first)
+    (subst (λ (ns : List ℕ). IfSome (g.F.Shelf.files c.read_book.new.shelf) (HasSizes c.in_ok-head.head.generation ns)) sizes c.in_ok-check_containers.ensures.long_enough))

@@ -1,0 +1,58 @@
+//! The containers of a store against the chunks of its book.
+ghost use Rattle.std.specs.Prelude.{◌≡◌, ◌≤◌, ◌<◌, ℕ, length, slice_index_or, IfSome, OnOk, OnErr};
+ghost use Rattle.edge_traits.specs.Faults.{Rose};
+ghost use Rattle.edge_traits.specs.Shelf.{SameFiles, SameLoose};
+ghost use Rattle.sd_base.specs.Packing.{container_sizes};
+ghost use Rattle.sd_base.specs.declared.damage.Damage.{Damage};
+ghost use Rattle.sd_base.specs.declared.file.File.TheVariants.{Container};
+ghost use Rattle.sd_base.specs.declared.limits.TheConstants.{MAX_CHUNKS};
+ghost use Rattle.store_core.specs.Containers.{IsFirstShort, OnlyFinds};
+
+use crate::StoreFault;
+use container_pack::container_sizes;
+use edge_traits::{File, Shelf};
+use sd_base::Damage;
+use std::alloc::Global;
+
+/// Looks whether each container of a generation has at least the bytes that chunks of these lengths
+/// need of it. The first that has fewer is named. No byte of a container is read.
+pub(crate) fn check_containers<F: Shelf>(
+    alloc: Global,
+    shelf: &mut F,
+    generation: u32,
+    lengths: &[u32],
+) -> Result<(), StoreFault>
+    requires within_limit { length lengths.now ≤ MAX_CHUNKS }
+
+    ensures long_enough { OnOk result (IfSome (F.files shelf.old) (λ files.
+        (k : ℕ) → k < length (container_sizes lengths.now)
+        → slice_index_or (container_sizes lengths.now) k 0 ≤ length (files (Container generation k)))) }
+    ensures damaged { (damage : Damage) → result ≡ Err (StoreFault.Damaged damage)
+        → IfSome (F.files shelf.old) (λ files. IsFirstShort files generation (container_sizes lengths.now) damage) }
+    ensures refused { OnErr result (OnlyFinds result) }
+
+    ensures same_files { SameFiles (F.files shelf.old) (F.files shelf.new) }
+    ensures same_loose { SameLoose (F.loose shelf.old) (F.loose shelf.new) }
+
+    ensures failed { result ≡ Err StoreFault.ShelfFault → Rose (F.faults shelf.old) (F.faults shelf.new) }
+    ensures never_falls { F.faults shelf.old ≤ F.faults shelf.new }
+
+    ensures faultless_serves { F.faultless shelf.old → result ≡ Err StoreFault.ShelfFault → ⊥ }
+    ensures faultless_counts_none { F.faultless shelf.old → F.faults shelf.new ≡ F.faults shelf.old }
+    ensures stays_faultless { F.faultless shelf.old → F.faultless shelf.new }
+{
+    let sizes = container_sizes(alloc, lengths)?;
+    for (number, needed) in sizes.iter().enumerate() {
+        let number = number as u32;
+        let found = shelf.len(File::Container(generation, number))?;
+        if found < *needed {
+            let needed = *needed;
+            return Err(StoreFault::Damaged(Damage::Container {
+                number,
+                needed,
+                found,
+            }));
+        }
+    }
+    Ok(())
+}

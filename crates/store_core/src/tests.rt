@@ -1,0 +1,142 @@
+use crate::{Store, StoreFault, init, settings_of};
+use chunk_names::Sha256Namer;
+use edge_traits::{File, MemShelf, Shelf, ShelfFail};
+use sd_base::{Damage, IngestRecord, Name, NewChunk, Params, Record};
+use session_book::encode_record;
+use std::test::Fail;
+
+/// The parameters under which every window of zeros is a match.
+fn small_params() -> Result<Params, Fail> {
+    Ok(
+        Params::new(0x8000_0000_0000_0001, 13, 0, 64, 256)
+            .ok()
+            .ok_or("valid parameters")?,
+    )
+}
+
+/// The head of a store with these parameters.
+const SMALL_HEAD: &[u8] =
+    b"SSCH\x01\0\x0d\0\x80\0\0\0\0\0\0\x01\0\0\0\0\0\0\0\x40\0\0\x01\0\0\0\0\0S";
+
+/// A shelf of which these calls fail.
+fn shelf_with(rt: &HostRuntime, failing: &[ShelfFail]) -> Result<MemShelf, Fail> {
+    Ok(MemShelf::new(rt.alloc(), Vec::from_slice(rt.alloc(), failing)?))
+}
+
+/// How opening the files of a shelf ends.
+fn opened(rt: &HostRuntime, shelf: &mut MemShelf) -> Option<StoreFault> {
+    Store::open(rt.alloc(), shelf, Sha256Namer).err()
+}
+
+#[test]
+fn a_store_is_made_once_and_opens_empty(rt: HostRuntime) -> Result<(), Fail> {
+    let params = small_params()?;
+    let mut shelf = shelf_with(&rt, &[])?;
+    shelf.put_file(File::Seal(0), b"old")?;
+    assert_eq!(rt; opened(&rt, &mut shelf), Some(StoreFault::NoStore));
+    assert_eq!(rt; init(rt.alloc(), &mut shelf, &params), Ok(()));
+    assert_eq!(rt; shelf.file(File::Head), SMALL_HEAD);
+    assert!(rt; shelf.file(File::Seal(0)).is_empty());
+    assert!(rt; !shelf.is_loose(File::Head));
+    assert!(rt; !shelf.is_loose(File::Seal(0)));
+    assert_eq!(rt;
+        init(rt.alloc(), &mut shelf, &params),
+        Err(StoreFault::StoreThere)
+    );
+    let store = Store::open(rt.alloc(), &mut shelf, Sha256Namer)
+        .ok()
+        .ok_or("it opens")?;
+    assert_eq!(rt; *store.params(), params);
+    assert_eq!(rt; store.generation(), 0);
+    assert_eq!(rt; store.book().sessions(), 0);
+    assert_eq!(rt; settings_of(store.params()).as_slice(), &SMALL_HEAD[..32]);
+    Ok(())
+}
+
+/// The name of a session.
+fn name_of(bytes: &[u8]) -> Result<Name, Fail> {
+    Ok(Name::read(bytes).ok().ok_or("a name")?)
+}
+
+/// The record of an ingest of 8 bytes as `a`, with one new chunk and one place of this entry.
+fn ingest(rt: &HostRuntime, entry: u32) -> Result<Vec<u8>, Fail> {
+    let chunk = NewChunk {
+        length: 8,
+        name: [2; 32],
+    };
+    let mut fresh = Vec::new(rt.alloc());
+    fresh.push(chunk)?;
+    let mut recipe = Vec::new(rt.alloc());
+    recipe.push(entry)?;
+    let record = Record::Ingest(IngestRecord {
+        name: name_of(b"a")?,
+        length: 8,
+        fresh: fresh.into(),
+        recipe: recipe.into(),
+    });
+    Ok(
+        encode_record(rt.alloc(), &record)
+            .ok()
+            .ok_or("there is memory")?,
+    )
+}
+
+#[test]
+fn the_first_damage_is_named(rt: HostRuntime) -> Result<(), Fail> {
+    let whole = ingest(&rt, 0)?;
+    let unnamed = ingest(&rt, 1)?;
+    let short = Damage::Container {
+        number: 0,
+        needed: 16,
+        found: 15,
+    };
+    let flaw = Damage::Recipe {
+        session: 0,
+        place: 0,
+    };
+    let cases: [(&[u8], &[u8], &[u8], &[u8], Option<Damage>); 8] = [
+        (SMALL_HEAD, b"S", &whole, &[0; 16], None),
+        (SMALL_HEAD, b"S", &whole, &[0; 17], None),
+        (SMALL_HEAD, b"", &unnamed, b"", None),
+        (&[0; 33], b"S", &whole, &[0; 16], Some(Damage::Head)),
+        (SMALL_HEAD, b"SS", &whole, &[0; 16], Some(Damage::Record(1))),
+        (SMALL_HEAD, b"S", b"I", b"", Some(Damage::Record(0))),
+        (SMALL_HEAD, b"S", &unnamed, b"", Some(flaw)),
+        (SMALL_HEAD, b"S", &whole, &[0; 15], Some(short)),
+    ];
+    for (head, seal, book, container, want) in cases {
+        let mut shelf = shelf_with(&rt, &[])?;
+        shelf.put_file(File::Head, head)?;
+        shelf.put_file(File::Seal(0), seal)?;
+        shelf.put_file(File::Book(0), book)?;
+        shelf.put_file(File::Container(0, 0), container)?;
+        assert_eq!(rt; opened(&rt, &mut shelf), want.map(StoreFault::Damaged));
+    }
+    Ok(())
+}
+
+#[test]
+fn a_failing_call_is_a_fault_of_the_shelf(rt: HostRuntime) -> Result<(), Fail> {
+    let params = small_params()?;
+    for call in 0..8 {
+        let mut shelf = shelf_with(&rt, &[ShelfFail { call, kept: 0 }])?;
+        assert_eq!(rt;
+            init(rt.alloc(), &mut shelf, &params),
+            Err(StoreFault::ShelfFault),
+            "call {call} fails"
+        );
+    }
+    // Opening an empty store asks for the sizes of its head, its seal and its book, and reads the settings and an empty
+    // front of the book.
+    for call in 8..13 {
+        let mut shelf = shelf_with(&rt, &[ShelfFail { call, kept: 0 }])?;
+        assert_eq!(rt; init(rt.alloc(), &mut shelf, &params), Ok(()));
+        assert_eq!(rt;
+            opened(&rt, &mut shelf),
+            Some(StoreFault::ShelfFault),
+            "call {call} fails"
+        );
+        assert_eq!(rt; opened(&rt, &mut shelf), None);
+    }
+    Ok(())
+}
