@@ -307,76 +307,99 @@ fn a_cut_waits_until_it_is_decided(rt: HostRuntime) -> Result<(), Fail> {
     Ok(())
 }
 
+const NOTES: [(Outcome, u8, &str); 17] = [
+    (Outcome::Done, 0, ""),
+    (
+        Outcome::BadWords(BadWords {
+            kind: BadKind::Missing,
+            place: 0,
+        }),
+        2,
+        "backup: bad words at 0: missing\n",
+    ),
+    (
+        Outcome::BadWords(BadWords {
+            kind: BadKind::Command,
+            place: 0,
+        }),
+        2,
+        "backup: bad words at 0: command\n",
+    ),
+    (
+        Outcome::BadWords(BadWords {
+            kind: BadKind::Name,
+            place: 1,
+        }),
+        2,
+        "backup: bad words at 1: name\n",
+    ),
+    (
+        Outcome::BadWords(BadWords {
+            kind: BadKind::Number,
+            place: 2,
+        }),
+        2,
+        "backup: bad words at 2: number\n",
+    ),
+    (
+        Outcome::BadWords(BadWords {
+            kind: BadKind::Key,
+            place: 1,
+        }),
+        2,
+        "backup: bad words at 1: key\n",
+    ),
+    (
+        Outcome::BadWords(BadWords {
+            kind: BadKind::Twice,
+            place: 12,
+        }),
+        2,
+        "backup: bad words at 12: twice\n",
+    ),
+    (
+        Outcome::BadWords(BadWords {
+            kind: BadKind::Value,
+            place: 3,
+        }),
+        2,
+        "backup: bad words at 3: value\n",
+    ),
+    (
+        Outcome::BadParams(BadParams::Polynomial),
+        14,
+        "backup: bad parameter: polynomial\n",
+    ),
+    (
+        Outcome::BadParams(BadParams::Bits),
+        14,
+        "backup: bad parameter: bits\n",
+    ),
+    (
+        Outcome::BadParams(BadParams::Target),
+        14,
+        "backup: bad parameter: target\n",
+    ),
+    (
+        Outcome::BadParams(BadParams::Min),
+        14,
+        "backup: bad parameter: min\n",
+    ),
+    (
+        Outcome::BadParams(BadParams::Max),
+        14,
+        "backup: bad parameter: max\n",
+    ),
+    (Outcome::InputTooLong, 8, "backup: input too long\n"),
+    (Outcome::SourceFault, 10, "backup: reading failed\n"),
+    (Outcome::SinkFault, 11, "backup: writing failed\n"),
+    (Outcome::OutOfMemory, 13, "backup: out of memory\n"),
+];
+
 #[test]
 fn each_outcome_has_its_status_and_its_note(rt: HostRuntime) -> Result<(), Fail> {
     let alloc = rt.alloc();
-    for (outcome, status, note) in [
-        (Outcome::Done, 0, ""),
-        (
-            bad_words(BadKind::Missing, 0),
-            2,
-            "backup: bad words at 0: missing\n",
-        ),
-        (
-            bad_words(BadKind::Command, 0),
-            2,
-            "backup: bad words at 0: command\n",
-        ),
-        (
-            bad_words(BadKind::Name, 1),
-            2,
-            "backup: bad words at 1: name\n",
-        ),
-        (
-            bad_words(BadKind::Number, 2),
-            2,
-            "backup: bad words at 2: number\n",
-        ),
-        (
-            bad_words(BadKind::Key, 1),
-            2,
-            "backup: bad words at 1: key\n",
-        ),
-        (
-            bad_words(BadKind::Twice, 12),
-            2,
-            "backup: bad words at 12: twice\n",
-        ),
-        (
-            bad_words(BadKind::Value, 3),
-            2,
-            "backup: bad words at 3: value\n",
-        ),
-        (
-            Outcome::BadParams(BadParams::Polynomial),
-            14,
-            "backup: bad parameter: polynomial\n",
-        ),
-        (
-            Outcome::BadParams(BadParams::Bits),
-            14,
-            "backup: bad parameter: bits\n",
-        ),
-        (
-            Outcome::BadParams(BadParams::Target),
-            14,
-            "backup: bad parameter: target\n",
-        ),
-        (
-            Outcome::BadParams(BadParams::Min),
-            14,
-            "backup: bad parameter: min\n",
-        ),
-        (
-            Outcome::BadParams(BadParams::Max),
-            14,
-            "backup: bad parameter: max\n",
-        ),
-        (Outcome::InputTooLong, 8, "backup: input too long\n"),
-        (Outcome::SourceFault, 10, "backup: reading failed\n"),
-        (Outcome::SinkFault, 11, "backup: writing failed\n"),
-        (Outcome::OutOfMemory, 13, "backup: out of memory\n"),
-    ] {
+    for (outcome, status, note) in NOTES {
         assert_eq!(rt; status_of(&outcome), status);
         let text = note_of(alloc, &outcome)?;
         assert_eq!(rt; text.as_str(), note);
