@@ -123,13 +123,16 @@ pub record ReadsInput {R K : Type 0} (outcome : Outcome) (left : R → Option (L
   -- At most 2^28 + 1 bytes were taken from the source.
   pub taken_at_most : LosesAtMost (MAX_INPUT + 1) (left source_before) (left source_after)
   -- If the input is too long, 2^28 + 1 bytes were taken.
-  pub taken : outcome ≡ InputTooLong → left source_after ≡ option_map (λ input. drop (MAX_INPUT + 1) input) (left source_before)
+  pub taken :
+      outcome ≡ InputTooLong
+      → left source_after ≡ option_map (λ input. drop (MAX_INPUT + 1) input) (left source_before)
 
 -- What a run leaves of the source, by what its words name.
 abbrev pub LeavesSource : {R K : Type 0} → Result Command Refusal → Outcome → (R → Option (List ℕ)) → R → R → K → K → Type 0
 LeavesSource (Ok (quiet (Plan _ _ _))) outcome left source_before source_after sink_before sink_after =
     ReadsInput outcome left source_before source_after sink_before sink_after
-LeavesSource (Err _) outcome left source_before source_after sink_before sink_after = source_after ≡ source_before
+LeavesSource (Err _) outcome left source_before source_after sink_before sink_after =
+    source_after ≡ source_before
 
 -- What a run leaves of the shelf, by what its words name.
 abbrev pub LeavesShelf : {F : Type 0} → Result Command Refusal → F → F → Type 0

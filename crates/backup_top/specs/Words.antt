@@ -11,7 +11,8 @@ texts_of words = map string_bytes words
 
 -- the value of a key after a word, from its value before
 abbrev pub value_after : List ℕ → Key → ℕ → ℕ
-value_after word key was = if sets_key key.name word then unwrap_or (number_of key (value_of word)) was else was
+value_after word key was =
+    if sets_key key.name word then unwrap_or (number_of key (value_of word)) was else was
 
 -- the parameters after a word, from those before
 abbrev pub params_after : List ℕ → RawParams → RawParams
