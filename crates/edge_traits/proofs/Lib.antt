@@ -3,3 +3,5 @@
 mod Streams
 -- The entries of a shelf in memory: looked up, changed and added. For `entries` and `MemShelf`.
 mod EntryLemmas
+-- The path of a container. For `write_path`.
+mod Paths
