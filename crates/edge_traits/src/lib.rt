@@ -18,6 +18,8 @@ mod fault;
 mod fault_plan;
 mod file_io;
 mod file_names;
+mod folder;
+mod folder_shelf;
 mod mem_shelf;
 mod mem_sink;
 mod mem_source;
@@ -35,6 +37,7 @@ mod std_source;
 mod tally;
 
 pub use fault::EdgeFault;
+pub use folder_shelf::FolderShelf;
 pub use mem_shelf::MemShelf;
 pub use mem_sink::MemSink;
 pub use mem_source::MemSource;
