@@ -9,62 +9,40 @@ use std::sync::atomic::Ordering::SeqCst;
 use std::test::Fail;
 use std::{fs, io};
 
-/// What the calls of a folder do, and how many of each kind were made.
+/// The syncs of files and folders: how many were made, and which one fails, counted from 1.
 #[derive(Drop)]
-struct Calls {
-    /// How many writes and reads a signal interrupts, from the first on.
-    interruptions: u64,
-    /// The most bytes of one write and of one read.
-    most: usize,
-    /// The sync with this number fails, counted from 1.
-    failing_sync: u64,
-    looks: AtomicU64,
-    opens: AtomicU64,
-    transfers: AtomicU64,
-    cuts: AtomicU64,
-    syncs: AtomicU64,
+struct Syncs {
+    made: AtomicU64,
+    failing: u64,
 }
 
-impl Calls {
-    fn new(interruptions: u64, most: usize, failing_sync: u64) -> Self {
-        Calls {
-            interruptions,
-            most,
-            failing_sync,
-            looks: AtomicU64::new(0),
-            opens: AtomicU64::new(0),
-            transfers: AtomicU64::new(0),
-            cuts: AtomicU64::new(0),
-            syncs: AtomicU64::new(0),
+impl Syncs {
+    fn new(failing: u64) -> Self {
+        Syncs {
+            made: AtomicU64::new(0),
+            failing,
         }
     }
 
-    fn count_transfer(&self, len: usize) -> io::Result<usize> {
-        if self.transfers.fetch_add(1, SeqCst) < self.interruptions {
-            return Err(ErrorKind::Interrupted.into());
-        }
-        Ok(len.min(self.most))
-    }
-
-    fn count_sync(&self) -> io::Result<()> {
-        if self.syncs.fetch_add(1, SeqCst).wrapping_add(1) == self.failing_sync {
+    fn sync(&self) -> io::Result<()> {
+        if self.made.fetch_add(1, SeqCst).wrapping_add(1) == self.failing {
             return Err(ErrorKind::Other.into());
         }
         Ok(())
     }
 }
 
-/// The system's files, with faults.
+/// The system's files, of which one sync fails.
 #[derive(Drop)]
 struct Faulty<'a> {
     rt: HostRuntime,
-    calls: &'a Calls,
+    syncs: &'a Syncs,
 }
 
 #[derive(Drop)]
 struct FaultyFile<'a> {
     file: fs::File,
-    calls: &'a Calls,
+    syncs: &'a Syncs,
 }
 
 impl Read for FaultyFile<'_> {
@@ -75,8 +53,7 @@ impl Read for FaultyFile<'_> {
 
 impl Write for FaultyFile<'_> {
     fn write(&mut self, bytes: &[u8]) -> io::Result<usize> {
-        let most = self.calls.count_transfer(bytes.len())?;
-        self.file.write(&bytes[..bytes.len().min(most)])
+        self.file.write(bytes)
     }
 
     fn flush(&mut self) -> io::Result<()> {
@@ -92,9 +69,7 @@ impl Seek for FaultyFile<'_> {
 
 impl FileExt for FaultyFile<'_> {
     fn read_at(&self, into: &mut [u8], offset: u64) -> io::Result<usize> {
-        let most = self.calls.count_transfer(into.len())?;
-        let room = into.len().min(most);
-        self.file.read_at(&mut into[..room], offset)
+        self.file.read_at(into, offset)
     }
 
     fn write_at(&self, bytes: &[u8], offset: u64) -> io::Result<usize> {
@@ -108,16 +83,15 @@ impl OpenFile for FaultyFile<'_> {
     }
 
     fn set_len(&self, size: u64) -> io::Result<()> {
-        self.calls.cuts.fetch_add(1, SeqCst);
         self.file.set_len(size)
     }
 
     fn sync_all(&self) -> io::Result<()> {
-        self.calls.count_sync()
+        self.syncs.sync()
     }
 
     fn sync_data(&self) -> io::Result<()> {
-        self.calls.count_sync()
+        self.syncs.sync()
     }
 }
 
@@ -127,10 +101,9 @@ impl<'a> Files for Faulty<'a> {
     type Dir = <HostRuntime as Files>::Dir;
 
     fn open_file(&self, how: &OpenOptions, path: &str) -> io::Result<FaultyFile<'a>> {
-        self.calls.opens.fetch_add(1, SeqCst);
         Ok(FaultyFile {
             file: self.rt.open_file(how, path)?,
-            calls: self.calls,
+            syncs: self.syncs,
         })
     }
 
@@ -139,7 +112,6 @@ impl<'a> Files for Faulty<'a> {
     }
 
     fn metadata(&self, path: &str) -> io::Result<Metadata> {
-        self.calls.looks.fetch_add(1, SeqCst);
         self.rt.metadata(path)
     }
 
@@ -252,74 +224,37 @@ fn what_is_no_regular_file_has_failed(rt: HostRuntime) -> Result<(), Fail> {
 }
 
 #[test]
-fn a_piece_is_one_system_call(rt: HostRuntime) -> Result<(), Fail> {
-    let calls = Calls::new(0, 9, 0);
-    fs::create_dir(&rt, "fast")?;
-    let mut shelf = FolderShelf::new(Faulty { rt, calls: &calls }, rt.alloc(), "fast")?;
-    let file = File::Container(0, 0);
-    let mut into = [0u8; 2];
-    for length in [0, 2, 4, 6] {
-        shelf.cut(file, length)?;
-        shelf.append(file, b"ab")?;
-    }
-    for offset in [6, 0, 4] {
-        assert_eq!(rt; shelf.read_at(file, offset, &mut into)?, 2);
-    }
-    assert_eq!(rt; calls.transfers.load(SeqCst), 7);
-    assert_eq!(rt; calls.opens.load(SeqCst), 1);
-    assert_eq!(rt; calls.looks.load(SeqCst), 2);
-    assert_eq!(rt; calls.cuts.load(SeqCst), 0);
-    Ok(())
-}
-
-#[test]
-fn an_interrupted_piece_is_made_again_64_times(rt: HostRuntime) -> Result<(), Fail> {
-    fs::create_dir(&rt, "slow")?;
-    for (generation, interruptions, len) in [(0, 1, 5), (1, 64, 5), (2, 65, 0)] {
-        let calls = Calls::new(interruptions, 2, 0);
-        let mut shelf = FolderShelf::new(Faulty { rt, calls: &calls }, rt.alloc(), "slow")?;
-        let file = File::Book(generation);
-        assert_eq!(rt; shelf.append(file, b"abcde").is_ok(), len == 5);
-        assert_eq!(rt; shelf.len(file)?, len);
-        let mut into = [0u8; 9];
-        assert_eq!(rt; shelf.read_at(file, 0, &mut into)? as u64, len);
-        assert!(rt; len == 0 || into == *b"abcde\0\0\0\0");
-    }
-    Ok(())
-}
-
-#[test]
 fn a_failed_flush_is_never_taken_for_done(rt: HostRuntime) -> Result<(), Fail> {
     fs::create_dir(&rt, "frail")?;
     // The first sync is of the file, the second of the folder, and the third of the other file.
     for failing in [1, 2, 3] {
-        let calls = Calls::new(0, 9, failing);
-        let mut shelf = FolderShelf::new(Faulty { rt, calls: &calls }, rt.alloc(), "frail")?;
+        let syncs = Syncs::new(failing);
+        let mut shelf = FolderShelf::new(Faulty { rt, syncs: &syncs }, rt.alloc(), "frail")?;
         shelf.append(File::Head, b"a")?;
         shelf.append(File::Book(0), b"b")?;
         shelf.flush(File::Seal(0))?;
-        assert_eq!(rt; calls.syncs.load(SeqCst), 0);
+        assert_eq!(rt; syncs.made.load(SeqCst), 0);
         assert_eq!(rt; shelf.flush(File::Head).is_ok(), failing > 2);
         for _ in 0..2 {
             assert_eq!(rt; shelf.flush(File::Book(0)).err(), Some(EdgeFault::Failed));
         }
-        assert_eq!(rt; calls.syncs.load(SeqCst), failing);
+        assert_eq!(rt; syncs.made.load(SeqCst), failing);
     }
     Ok(())
 }
 
 #[test]
 fn a_changed_file_that_lost_its_place_is_flushed(rt: HostRuntime) -> Result<(), Fail> {
-    let calls = Calls::new(0, 9, 0);
+    let syncs = Syncs::new(0);
     fs::create_dir(&rt, "full")?;
-    let mut shelf = FolderShelf::new(Faulty { rt, calls: &calls }, rt.alloc(), "full")?;
+    let mut shelf = FolderShelf::new(Faulty { rt, syncs: &syncs }, rt.alloc(), "full")?;
     shelf.append(File::Container(0, 0), b"a")?;
     shelf.append(File::Container(0, 64), b"b")?;
     shelf.flush(File::Container(0, 64))?;
-    assert_eq!(rt; calls.syncs.load(SeqCst), 2);
+    assert_eq!(rt; syncs.made.load(SeqCst), 2);
     shelf.flush(File::Container(0, 0))?;
-    assert_eq!(rt; calls.syncs.load(SeqCst), 3);
+    assert_eq!(rt; syncs.made.load(SeqCst), 3);
     shelf.flush(File::Container(0, 0))?;
-    assert_eq!(rt; calls.syncs.load(SeqCst), 3);
+    assert_eq!(rt; syncs.made.load(SeqCst), 3);
     Ok(())
 }
