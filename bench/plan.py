@@ -3,7 +3,7 @@
 
 The programs run in turn on the same file as standard input. The table has the best time and the
 highest memory of each. wc takes the file through a pipe: given the file itself, it would look up
-the size and read nothing.
+the size and read nothing. MB is 10^6 bytes.
 """
 
 import argparse

@@ -1,6 +1,6 @@
--- A word and its flaw. Each word without one sets a key that no earlier word sets, so there are no more such words than
--- keys.
-use Rattle.std.proofs.Common.{◌≡◌, ◌≢◌, ℕ, ◌+◌, ◌≤◌, ◌<◌, Bool, true, false, cond, List, [], ◌∷◌, ◌++◌, map, length, get_or, take, drop, Option, Some, None, is_some, refl, sym, ap, ◌∙◌, inl, inr, arith, add-one}
+-- A word and its flaw. Each word without one sets a key that no earlier word sets, so there are no
+-- more such words than keys.
+use Rattle.std.proofs.Common.{◌≡◌, ◌≢◌, ℕ, ◌+◌, ◌≤◌, ◌<◌, Bool, true, false, cond, List, [], ◌∷◌, ◌++◌, map, length, get_or, take, drop, Option, Some, None, refl, sym, ap, ◌∙◌, inl, inr, arith, add-one}
 use Rattle.std.proofs.Math.Seq.{drop-cons, take-suc}
 use Rattle.std.proofs.lemmas.Bool.{cases_Bool}
 use Rattle.std.proofs.lemmas.List.{map-append}
@@ -8,28 +8,28 @@ use Rattle.std.proofs.lemmas.List.Folds.{list_any-append}
 use Rattle.std.proofs.lemmas.Slice.Eq.{bytes_eq-Decides}
 use Rattle.std.specs.List.{find, list_any}
 use Rattle.std.specs.Str.{bytes_eq}
-use Rattle.sd_base.specs.declared.words.BadKind.TheVariants.{Value}
-use Rattle.sd_base.specs.Keys.{Key, is_equals_sign, key_name_of, value_of, sets_key, number_of, bad_kind_of_value, bad_kind_of, first_bad_word}
+use Rattle.sd_base.specs.Keys.{Key, is_equals_sign, key_name_of, value_of, sets_key, bad_kind_of_value, bad_kind_of, first_bad_word}
 
 abbrev pub is_named : List ℕ → Key → Bool
 is_named name key = bytes_eq key.name name
 
--- what is wrong with a word that sets a key for the first time
-pub first_of_key : (keys : List Key) (before : List (List ℕ)) (word name value : List ℕ) (key : Key) (r : Option ℕ) → list_any is_equals_sign word ≡ true → name ≡ key_name_of word → value ≡ value_of word → find (is_named name) keys ≡ Some key → list_any (sets_key name) before ≡ false → r ≡ number_of key value → bad_kind_of keys before word ≡ cond (is_some r) None (Some Value)
-first_of_key keys before word name value key r cut left right known free read =
+-- a key of another name
+pub other_name : (name : List ℕ) (key : Key) → name ≢ key.name → is_named name key ≡ false
+other_name name key other = elim (cases_Bool (is_named name key)) [
+  | inl here ↦ absurd (other (sym ((bytes_eq-Decides key.name name).0 here)))
+  | inr not ↦ not
+]
+
+-- what is wrong with a word that is cut into a name and a value, from the key of this name
+pub bad_kind_at : (keys : List Key) (before : List (List ℕ)) (word name value : List ℕ) (key : Option Key) → list_any is_equals_sign word ≡ true → name ≡ key_name_of word → value ≡ value_of word → find (is_named name) keys ≡ key → bad_kind_of_value key (list_any (sets_key name) before) value ≡ bad_kind_of keys before word
+bad_kind_at keys before word name value key cut left right known =
     let known_left = rw left at known in
-    let free_left = rw left at free in
-    rw (cut, known_left, free_left, read, right) refl
+    rw (cut, known_left, left, right) refl
 
 -- how many keys no word sets
 abbrev pub unset : List Key → List (List ℕ) → ℕ
 unset [] words = 0
 unset (key ∷ keys) words = cond (list_any (sets_key key.name) words) 0 1 + unset keys words
-
--- before the first word each key is left
-pub unset_at_first : {A : Type 0} (f : A → Key) (keys : List A) → unset (map f keys) [] ≡ length keys
-unset_at_first f [] = refl
-unset_at_first f (key ∷ keys) = let rest = unset_at_first f keys in omega arith
 
 -- one more word, after which each key that was set is set
 more : (keys : List Key) (before : List (List ℕ)) (word : List ℕ) → unset keys (before ++ word ∷ []) ≤ unset keys before
@@ -68,7 +68,7 @@ no_bad_kind_of_value (Some key) true value none = absurd (cc)
 no_bad_kind_of_value (Some key) false value none = (λ no. absurd (cc), refl)
 
 -- what is known of a word without a flaw
-no_flaw : (keys : List Key) (before : List (List ℕ)) (word : List ℕ) → bad_kind_of keys before word ≡ None → (find (is_named (key_name_of word)) keys ≢ None) × (list_any (sets_key (key_name_of word)) before ≡ false)
+pub no_flaw : (keys : List Key) (before : List (List ℕ)) (word : List ℕ) → bad_kind_of keys before word ≡ None → (find (is_named (key_name_of word)) keys ≢ None) × (list_any (sets_key (key_name_of word)) before ≡ false)
 no_flaw keys before word none = elim (cases_Bool (list_any is_equals_sign word)) [
   | inl cut ↦ no_bad_kind_of_value _ _ (value_of word) (rw cut at none)
   | inr uncut ↦ absurd (let bad = rw uncut at none in cc)

@@ -1,5 +1,5 @@
 -- The keys of a command in the program, and what they are in the definitions.
-use Rattle.std.specs.Prelude.{ℕ, List, map}
+use Rattle.std.specs.Prelude.{ℕ}
 use Rattle.sd_base.specs.Keys.{Key}
 use Rattle.backup_top.specs.declared.keys.Key.{Key as ProgramKey}
 use Rattle.backup_top.specs.declared.keys.Spelling.{Spelling}
@@ -24,6 +24,3 @@ key_spec_of key = record {
   least = key.least;
   greatest = key.greatest;
 }
-
-abbrev pub key_specs_of : List ProgramKey → List Key
-key_specs_of keys = map key_spec_of keys

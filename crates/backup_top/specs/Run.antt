@@ -72,7 +72,8 @@ pub record HasFailed (faultless : Type 0) (before after : ℕ) : Type 0 where
   pub may_fail : faultless → ⊥
 
 -- What a run does to a device's count of faults.
-pub record CountsFaults {D : Type 0} (faults : D → ℕ) (faultless : D → Type 0) (before after : D) : Type 0 where
+pub record CountsFaults {D : Type 0} (faults : D → ℕ) (faultless : D → Type 0)
+    (before after : D) : Type 0 where
   -- The count never falls.
   pub never_falls : faults before ≤ faults after
   -- If the device will not fail any more, it counts no fault, and it still will not fail.
@@ -81,7 +82,8 @@ pub record CountsFaults {D : Type 0} (faults : D → ℕ) (faultless : D → Typ
 
 -- How a run on one input ends and what it writes, from the pass that the definition has for this
 -- input.
-pub record IsRunOn {K : Type 0} (pass : Pass) (outcome : Outcome) (source_failed sink_failed : Type 0) (written_to : K → Option (List ℕ)) (before after : K) : Type 0 where
+pub record IsRunOn {K : Type 0} (pass : Pass) (outcome : Outcome) (source_failed sink_failed : Type 0)
+    (written_to : K → Option (List ℕ)) (before after : K) : Type 0 where
   -- The outcome is that of the definition, or the fault of a device that failed in this run, or out
   -- of memory.
   pub answer : EndsAs pass.outcome source_failed sink_failed outcome
@@ -94,7 +96,10 @@ pub record IsRunOn {K : Type 0} (pass : Pass) (outcome : Outcome) (source_failed
   pub nothing_to_write : pass.text ≡ [] → after ≡ before
 
 -- Every run: `pass` is the definition's pass for each input.
-pub record IsRun {R K : Type 0} (pass : List ℕ → Pass) (outcome : Outcome) (left : R → Option (List ℕ)) (read_faults : R → ℕ) (source_faultless : R → Type 0) (source_before source_after : R) (written_to : K → Option (List ℕ)) (write_faults : K → ℕ) (sink_faultless : K → Type 0) (sink_before sink_after : K) : Type 0 where
+pub record IsRun {R K : Type 0} (pass : List ℕ → Pass) (outcome : Outcome)
+    (left : R → Option (List ℕ)) (read_faults : R → ℕ) (source_faultless : R → Type 0) (source_before source_after : R)
+    (written_to : K → Option (List ℕ)) (write_faults : K → ℕ) (sink_faultless : K → Type 0)
+    (sink_before sink_after : K) : Type 0 where
   -- There is an input, which is the source's bytes if the source is observable, and the run is that
   -- of the definition on it.
   pub on_some_input :
@@ -113,7 +118,8 @@ pub record IsRun {R K : Type 0} (pass : List ℕ → Pass) (outcome : Outcome) (
   pub untouched : IsEarly outcome → source_after ≡ source_before
 
 -- What a run of a command that reads its input leaves of the source.
-pub record ReadsInput {R K : Type 0} (outcome : Outcome) (left : R → Option (List ℕ)) (source_before source_after : R) (sink_before sink_after : K) : Type 0 where
+pub record ReadsInput {R K : Type 0} (outcome : Outcome) (left : R → Option (List ℕ))
+    (source_before source_after : R) (sink_before sink_after : K) : Type 0 where
   -- On Done the source was read to its end.
   pub whole_input : outcome ≡ Done → IsAtEnd (left source_after)
   -- After a failed write it was read to its end too.
@@ -123,13 +129,17 @@ pub record ReadsInput {R K : Type 0} (outcome : Outcome) (left : R → Option (L
   -- At most 2^28 + 1 bytes were taken from the source.
   pub taken_at_most : LosesAtMost (MAX_INPUT + 1) (left source_before) (left source_after)
   -- If the input is too long, 2^28 + 1 bytes were taken.
-  pub taken : outcome ≡ InputTooLong → left source_after ≡ option_map (λ input. drop (MAX_INPUT + 1) input) (left source_before)
+  pub taken :
+      outcome ≡ InputTooLong
+      → left source_after ≡ option_map (λ input. drop (MAX_INPUT + 1) input) (left source_before)
 
 -- What a run leaves of the source, by what its words name.
-abbrev pub LeavesSource : {R K : Type 0} → Result Command Refusal → Outcome → (R → Option (List ℕ)) → R → R → K → K → Type 0
+abbrev pub LeavesSource : {R K : Type 0} → Result Command Refusal → Outcome
+    → (R → Option (List ℕ)) → R → R → K → K → Type 0
 LeavesSource (Ok (quiet (Plan _ _ _))) outcome left source_before source_after sink_before sink_after =
     ReadsInput outcome left source_before source_after sink_before sink_after
-LeavesSource (Err _) outcome left source_before source_after sink_before sink_after = source_after ≡ source_before
+LeavesSource (Err _) outcome left source_before source_after sink_before sink_after =
+    source_after ≡ source_before
 
 -- What a run leaves of the shelf, by what its words name.
 abbrev pub LeavesShelf : {F : Type 0} → Result Command Refusal → F → F → Type 0

@@ -21,7 +21,8 @@ pub fn run_in_memory<H: Threads + Sync>(
 ) -> (Outcome, MemSink)
     ensures pass { (one_pass (texts_of words.now) input.items
         ≡ record { outcome = result.0; text = written_of result.1 }) ⊎ (result.0 ≡ Outcome.OutOfMemory) }
-    ensures prefix { (k : ℕ) × (written_of result.1 ≡ take k (one_pass (texts_of words.now) input.items).text) }
+    ensures prefix { (k : ℕ)
+        × (written_of result.1 ≡ take k (one_pass (texts_of words.now) input.items).text) }
 {
     let mut source = MemSource::new(alloc, input, Vec::new(alloc), Vec::new(alloc));
     let mut sink = MemSink::new(alloc, Vec::new(alloc));

@@ -1,15 +1,15 @@
 //! The keys of a command, and the values that words of the form KEY=VALUE set them to. Nothing here
 //! takes memory.
 
-ghost use Rattle.std.specs.Prelude.{◌≡◌, ◌+◌, ◌^◌, ◌<◌, ◌≤◌, [], length, true, false, nat_lt, option_map, MatchOption};
+ghost use Rattle.std.specs.Prelude.{◌≡◌, ◌≤◌, length, true, false, nat_lt, Some, IfOk, IfSome, MatchOption};
+ghost use Rattle.std.specs.Result.{result_err};
 ghost use Rattle.std.specs.Char.{digit_value};
-ghost use Rattle.std.specs.List.{find, list_all, list_any};
-ghost use Rattle.std.specs.Str.{bytes_eq};
-ghost use Rattle.sd_base.specs.Keys.{first_bad_word as first_bad_word_of, bad_kind_of as bad_kind_of_word, is_equals_sign, is_spelled as spelled, key_name_of, number_of, sets_key, value_or_default as value_or_default_of, value_of as value_of_word};
-ghost use Rattle.backup_top.specs.Keys.{base_of, key_spec_of, key_specs_of, most_digits_of};
+ghost use Rattle.std.specs.List.{list_all, list_any};
+ghost use Rattle.sd_base.specs.Keys.{bad_kind_of_value, is_equals_sign, is_spelled as spelled, key_name_of, number_of, sets_key, value_of};
+ghost use Rattle.backup_top.specs.Keys.{base_of, key_spec_of, most_digits_of};
 ghost use Rattle.backup_top.specs.Words.{texts_of};
 
-use sd_base::{BadKind, BadWords};
+use sd_base::BadKind;
 
 /// How the values of a key are spelled.
 #[derive(Clone, Copy)]
@@ -51,63 +51,17 @@ pub struct Key {
     pub greatest: u64,
 }
 
-/// The first word that fails, of those after the command. Each word before it sets a key of its
-/// own, so its place is at most one more than the number of keys.
-pub fn first_bad_word(keys: &[Key], words: &[String]) -> Option<BadWords>
-    requires { length keys.now + 1 < 2 ^ 32 }
-    ensures { result ≡ first_bad_word_of (key_specs_of keys.now) [] 1 (texts_of words.now) }
+/// The value that a text sets a key to, after the words before it.
+pub fn read_value(key: &Key, before: &[String], text: &str) -> Result<u64, BadKind>
+    ensures bad { result_err result ≡ bad_kind_of_value (Some (key_spec_of key.now))
+        (list_any (sets_key key.now.name.now) (texts_of before.now)) text.now }
+    ensures value { IfOk result (λ value. number_of (key_spec_of key.now) text.now ≡ Some value) }
+    ensures in_range { IfOk result (λ value. value ≤ key.now.greatest) }
 {
-    for (i, word) in words.iter().enumerate() {
-        if let Some(kind) = bad_kind_of(keys, &words[..i], word.as_str()) {
-            let place = i as u32 + 1;
-            return Some(BadWords { kind, place });
-        }
+    if is_set(before, key.name) {
+        return Err(BadKind::Twice);
     }
-    None
-}
-
-/// The value that the words set a key to, or otherwise its default.
-pub fn value_or_default(words: &[String], key: &Key, default: u64) -> u64
-    requires { default ≤ key.now.greatest }
-    ensures value { result ≡ value_or_default_of (texts_of words.now) (key_spec_of key.now) default }
-    ensures in_range { result ≤ key.now.greatest }
-{
-    for word in words {
-        if key_name(word.as_str()) == key.name {
-            return parse_value(key, value_of(word.as_str())).unwrap_or(default);
-        }
-    }
-    default
-}
-
-// What is wrong with a word, from those before it.
-fn bad_kind_of(keys: &[Key], before: &[String], word: &str) -> Option<BadKind>
-    ensures { result ≡ bad_kind_of_word (key_specs_of keys.now) (texts_of before.now) word.now }
-{
-    let Some((name, value)) = split_word(word) else {
-        return Some(BadKind::Key);
-    };
-    let Some(key) = find_key(keys, name) else {
-        return Some(BadKind::Key);
-    };
-    if is_set(before, name) {
-        return Some(BadKind::Twice);
-    }
-    if parse_value(key, value).is_none() {
-        return Some(BadKind::Value);
-    }
-    None
-}
-
-fn find_key<'a>(keys: &'a [Key], name: &str) -> Option<&'a Key>
-    ensures { option_map (λ key. key_spec_of key.now) result ≡ find (λ key. bytes_eq key.name name.now) (key_specs_of keys.now) }
-{
-    for key in keys {
-        if key.name == name {
-            return Some(key);
-        }
-    }
-    None
+    parse_value(key, text).ok_or(BadKind::Value)
 }
 
 fn is_set(before: &[String], name: &str) -> bool
@@ -121,11 +75,11 @@ fn is_set(before: &[String], name: &str) -> bool
     false
 }
 
-// The two sides of the first `=` of a word.
-fn split_word(word: &str) -> Option<(&str, &str)>
+/// The two sides of the first `=` of a word: the name of a key, and the text of its value.
+pub fn split_word(word: &str) -> Option<(&str, &str)>
     ensures { MatchOption result (list_any is_equals_sign word.now ≡ false) (λ sides.
         (list_any is_equals_sign word.now ≡ true)
-        × (sides.0.now ≡ key_name_of word.now) × (sides.1.now ≡ value_of_word word.now)) }
+        × (sides.0.now ≡ key_name_of word.now) × (sides.1.now ≡ value_of word.now)) }
 {
     word.split_once('=')
 }
@@ -136,15 +90,10 @@ fn key_name(word: &str) -> &str
     word.split_once('=').map_or(word, |(name, _)| name)
 }
 
-fn value_of(word: &str) -> &str
-    ensures { result.now ≡ value_of_word word.now }
-{
-    word.split_once('=').map_or("", |(_, value)| value)
-}
-
 // The value of a key that a text spells.
 fn parse_value(key: &Key, text: &str) -> Option<u64>
-    ensures { result ≡ number_of (key_spec_of key.now) text.now }
+    ensures value { result ≡ number_of (key_spec_of key.now) text.now }
+    ensures in_range { IfSome result (λ value. value ≤ key.now.greatest) }
 {
     let (least, greatest) = (key.least, key.greatest);
     if !is_spelled(key, text.as_bytes()) {

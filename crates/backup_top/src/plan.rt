@@ -57,7 +57,8 @@ fn read_plan_text<R: Source>(
     source: &mut R,
 ) -> Result<String, ReadFault>
     ensures pass { IfOk result (λ text. (input : List ℕ) × IsInputOf (R.left source.old) input
-        × (pass_of_valid_plan (numbers_of params.now) input ≡ record { outcome = Done; text = string_bytes text })) }
+        × (pass_of_valid_plan (numbers_of params.now) input
+        ≡ record { outcome = Done; text = string_bytes text })) }
     ensures at_end { OnOk result (IsAtEnd (R.left source.new)) }
 
     ensures source_fault { IsErrOf result ReadFault.SourceFault

@@ -11,27 +11,60 @@ use sd_base::{MAX_INPUT, Params};
 use segment_scan::scan_range;
 use std::alloc::{AllocError, Global};
 use std::test::Fail;
+use std::thread::Threads;
 
 const ABC: &str = "0 3 ba7816bf8f01cfea414140de5dae2223b00361a396177a9cb410ff61f20015ad\n";
 
-pub(crate) fn words(alloc: Global, texts: &[&str]) -> Result<Vec<String>, AllocError> {
+// The words of a command line, which is written with a comma between each two: those after the path
+// of the store.
+pub(crate) fn words(alloc: Global, line: &str) -> Result<Vec<String>, AllocError> {
     let mut words = Vec::new(alloc);
-    for text in texts {
-        words.push(String::from_str(alloc, text)?)?;
+    for word in line.split(',').skip(1) {
+        words.push(String::from_str(alloc, word)?)?;
     }
     Ok(words)
+}
+
+// Runs a command line over these devices.
+fn run_line<H: Threads + Sync, K: Sink>(
+    rt: &H,
+    alloc: Global,
+    line: &str,
+    source: &mut MemSource,
+    sink: &mut K,
+) -> Result<Outcome, AllocError> {
+    let words = words(alloc, line)?;
+    let mut shelf = NoShelf::new();
+    let outcome = run(rt, alloc, words.as_slice(), source, sink, &mut shelf);
+    Ok(outcome)
+}
+
+// Runs a command line on an input in memory.
+fn run_line_in_memory<H: Threads + Sync>(
+    rt: &H,
+    alloc: Global,
+    line: &str,
+    input: Vec<u8>,
+) -> Result<(Outcome, MemSink), AllocError> {
+    let words = words(alloc, line)?;
+    Ok(run_in_memory(rt, alloc, words.as_slice(), input))
+}
+
+fn abc(alloc: Global) -> Result<MemSource, AllocError> {
+    let input = b"abc".to_vec(alloc)?;
+    Ok(MemSource::new(alloc, input, Vec::new(alloc), Vec::new(alloc)))
+}
+
+fn bad_words(kind: BadKind, place: u32) -> Outcome {
+    Outcome::BadWords(BadWords { kind, place })
 }
 
 // t^63 + 1: a byte 1 with 47 zeros before it has the fingerprint 1, and zeros have 0.
 const SPARSE: u64 = 0x8000_0000_0000_0001;
 
-const SPARSE_WORDS: [&str; 5] = [
-    "plan",
-    "polynomial=8000000000000001",
-    "bits=13",
-    "min=64",
-    "max=256",
-];
+const ALL: &str = "store,plan,polynomial=8000000000000001,bits=13,min=64,max=256,target=0";
+
+const FEW: &str = "store,plan,polynomial=8000000000000001,bits=13,min=64,max=256,target=1";
 
 // Zeros, with a byte 1 at an index if that lies within them.
 fn zeros_with_one(alloc: Global, length: usize, index: usize) -> Result<Vec<u8>, AllocError> {
@@ -80,28 +113,26 @@ const PAST_MAXIMUM: &str = "\
 #[test]
 fn plan_prints_the_chunks_that_the_rule_cuts(rt: HostRuntime) -> Result<(), Fail> {
     let alloc = rt.alloc();
-    for (target, length, index, lines) in [
+    for (line, length, index, text) in [
         // An empty input has no chunk.
-        ("target=1", 0, NONE, ""),
+        (FEW, 0, NONE, ""),
         // With no candidate each chunk but the last has the maximum.
-        ("target=1", 700, NONE, NO_MATCH),
+        (FEW, 700, NONE, NO_MATCH),
         // With a candidate at each position each chunk but the last has the minimum.
-        ("target=0", 200, NONE, ALL_MATCH),
+        (ALL, 200, NONE, ALL_MATCH),
         // A chunk ends right after the byte that makes a candidate.
-        ("target=1", 300, 99, AT_100),
+        (FEW, 300, 99, AT_100),
         // A candidate below the minimum is passed over.
-        ("target=1", 200, 62, BELOW_MINIMUM),
+        (FEW, 200, 62, BELOW_MINIMUM),
         // One at the minimum is a cut.
-        ("target=1", 200, 63, AT_MINIMUM),
+        (FEW, 200, 63, AT_MINIMUM),
         // One after the maximum comes too late, and is below the minimum of the next chunk.
-        ("target=1", 300, 256, PAST_MAXIMUM),
+        (FEW, 300, 256, PAST_MAXIMUM),
     ] {
-        let mut words = words(alloc, &SPARSE_WORDS)?;
-        words.push(String::from_str(alloc, target)?)?;
         let input = zeros_with_one(alloc, length, index)?;
-        let (outcome, sink) = run_in_memory(&rt, alloc, words.as_slice(), input);
+        let (outcome, sink) = run_line_in_memory(&rt, alloc, line, input)?;
         assert_eq!(rt; outcome, Outcome::Done);
-        assert_eq!(rt; sink.written(), lines.as_bytes());
+        assert_eq!(rt; sink.written(), text.as_bytes());
     }
     Ok(())
 }
@@ -109,8 +140,8 @@ fn plan_prints_the_chunks_that_the_rule_cuts(rt: HostRuntime) -> Result<(), Fail
 #[test]
 fn an_input_of_three_bytes_is_one_chunk(rt: HostRuntime) -> Result<(), Fail> {
     let alloc = rt.alloc();
-    let words = words(alloc, &["plan"])?;
-    let (outcome, sink) = run_in_memory(&rt, alloc, words.as_slice(), b"abc".to_vec(alloc)?);
+    let input = b"abc".to_vec(alloc)?;
+    let (outcome, sink) = run_line_in_memory(&rt, alloc, "store,plan", input)?;
     assert_eq!(rt; outcome, Outcome::Done);
     assert_eq!(rt; sink.written(), ABC.as_bytes());
     Ok(())
@@ -119,21 +150,11 @@ fn an_input_of_three_bytes_is_one_chunk(rt: HostRuntime) -> Result<(), Fail> {
 #[test]
 fn an_input_that_comes_byte_by_byte_has_the_same_chunks(rt: HostRuntime) -> Result<(), Fail> {
     let alloc = rt.alloc();
-    let mut words = words(alloc, &SPARSE_WORDS)?;
-    words.push(String::from_str(alloc, "target=1")?)?;
     let input = zeros_with_one(alloc, 300, 99)?;
     let sizes = vec![in alloc; 1u32; 300]?;
     let mut source = MemSource::new(alloc, input, sizes, Vec::new(alloc));
     let mut sink = MemSink::new(alloc, Vec::new(alloc));
-    let mut shelf = NoShelf::new();
-    let outcome = run(
-        &rt,
-        alloc,
-        words.as_slice(),
-        &mut source,
-        &mut sink,
-        &mut shelf,
-    );
+    let outcome = run_line(&rt, alloc, FEW, &mut source, &mut sink)?;
     assert_eq!(rt; outcome, Outcome::Done);
     assert_eq!(rt; sink.written(), AT_100.as_bytes());
     Ok(())
@@ -142,23 +163,10 @@ fn an_input_that_comes_byte_by_byte_has_the_same_chunks(rt: HostRuntime) -> Resu
 #[test]
 fn a_read_that_fails_in_mid_stream_writes_nothing(rt: HostRuntime) -> Result<(), Fail> {
     let alloc = rt.alloc();
-    let words = words(alloc, &["plan"])?;
-    let mut source = MemSource::new(
-        alloc,
-        b"abcd".to_vec(alloc)?,
-        vec![in alloc; 1, 1, 1]?,
-        vec![in alloc; 2]?,
-    );
+    let input = b"abcd".to_vec(alloc)?;
+    let mut source = MemSource::new(alloc, input, vec![in alloc; 1, 1, 1]?, vec![in alloc; 2]?);
     let mut sink = MemSink::new(alloc, Vec::new(alloc));
-    let mut shelf = NoShelf::new();
-    let outcome = run(
-        &rt,
-        alloc,
-        words.as_slice(),
-        &mut source,
-        &mut sink,
-        &mut shelf,
-    );
+    let outcome = run_line(&rt, alloc, "store,plan", &mut source, &mut sink)?;
     assert_eq!(rt; outcome, Outcome::SourceFault);
     assert!(rt; sink.written().is_empty());
     Ok(())
@@ -167,9 +175,8 @@ fn a_read_that_fails_in_mid_stream_writes_nothing(rt: HostRuntime) -> Result<(),
 #[test]
 fn an_input_of_one_byte_too_many_is_refused(rt: HostRuntime) -> Result<(), Fail> {
     let alloc = rt.alloc();
-    let words = words(alloc, &["plan"])?;
     let input = vec![in alloc; 0u8; MAX_INPUT as usize + 1]?;
-    let (outcome, sink) = run_in_memory(&rt, alloc, words.as_slice(), input);
+    let (outcome, sink) = run_line_in_memory(&rt, alloc, "store,plan", input)?;
     assert_eq!(rt; outcome, Outcome::InputTooLong);
     assert!(rt; sink.written().is_empty());
     Ok(())
@@ -208,28 +215,14 @@ impl Sink for Slow {
 #[test]
 fn a_write_that_fails_writes_a_prefix_of_the_text(rt: HostRuntime) -> Result<(), Fail> {
     let alloc = rt.alloc();
-    let words = words(alloc, &["plan"])?;
     for (room, prefix) in [(0, ""), (5, "0 3 b")] {
-        let mut source = MemSource::new(
-            alloc,
-            b"abc".to_vec(alloc)?,
-            Vec::new(alloc),
-            Vec::new(alloc),
-        );
+        let mut source = abc(alloc)?;
         let mut sink = Slow {
             bytes: Vec::new(alloc),
             room,
             faults: 0,
         };
-        let mut shelf = NoShelf::new();
-        let outcome = run(
-            &rt,
-            alloc,
-            words.as_slice(),
-            &mut source,
-            &mut sink,
-            &mut shelf,
-        );
+        let outcome = run_line(&rt, alloc, "store,plan", &mut source, &mut sink)?;
         assert_eq!(rt; outcome, Outcome::SinkFault);
         assert_eq!(rt; sink.bytes.as_slice(), prefix.as_bytes());
         assert_eq!(rt; sink.faults, 1);
@@ -240,48 +233,32 @@ fn a_write_that_fails_writes_a_prefix_of_the_text(rt: HostRuntime) -> Result<(),
 #[test]
 fn a_run_that_refuses_words_or_parameters_touches_no_device(rt: HostRuntime) -> Result<(), Fail> {
     let alloc = rt.alloc();
-    let bad = |kind, place| Outcome::BadWords(BadWords { kind, place });
-    let none: &[&str] = &[];
-    for (texts, refusal) in [
-        (none, bad(BadKind::Missing, 0)),
-        (&["init"], bad(BadKind::Command, 0)),
-        (&["plan", "speed=3"], bad(BadKind::Key, 1)),
-        (&["plan", "bits=13", "bits=99"], bad(BadKind::Twice, 2)),
-        (&["plan", "min=64", "bits=07"], bad(BadKind::Value, 2)),
+    for (line, refusal) in [
+        ("store", bad_words(BadKind::Missing, 0)),
+        ("store,init", bad_words(BadKind::Command, 0)),
+        ("store,plan,speed=3", bad_words(BadKind::Key, 1)),
+        ("store,plan,bits=13,bits=99", bad_words(BadKind::Twice, 2)),
+        ("store,plan,min=64,bits=07", bad_words(BadKind::Value, 2)),
         (
-            &["plan", "bits=17", "min=1"],
+            "store,plan,bits=17,min=1",
             Outcome::BadParams(BadParams::Bits),
         ),
         (
-            &["plan", "min=47", "bits=0"],
+            "store,plan,min=47,bits=0",
             Outcome::BadParams(BadParams::Bits),
         ),
         (
-            &["plan", "polynomial=8000000000000000"],
+            "store,plan,polynomial=8000000000000000",
             Outcome::BadParams(BadParams::Polynomial),
         ),
         (
-            &["plan", "min=4096", "max=2048"],
+            "store,plan,min=4096,max=2048",
             Outcome::BadParams(BadParams::Max),
         ),
     ] {
-        let words = words(alloc, texts)?;
-        let mut source = MemSource::new(
-            alloc,
-            b"abc".to_vec(alloc)?,
-            Vec::new(alloc),
-            Vec::new(alloc),
-        );
+        let mut source = abc(alloc)?;
         let mut sink = MemSink::new(alloc, Vec::new(alloc));
-        let mut shelf = NoShelf::new();
-        let outcome = run(
-            &rt,
-            alloc,
-            words.as_slice(),
-            &mut source,
-            &mut sink,
-            &mut shelf,
-        );
+        let outcome = run_line(&rt, alloc, line, &mut source, &mut sink)?;
         assert_eq!(rt; outcome, refusal);
         assert!(rt; sink.written().is_empty());
         let mut into = [0u8; 4];
@@ -330,65 +307,99 @@ fn a_cut_waits_until_it_is_decided(rt: HostRuntime) -> Result<(), Fail> {
     Ok(())
 }
 
+const NOTES: [(Outcome, u8, &str); 17] = [
+    (Outcome::Done, 0, ""),
+    (
+        Outcome::BadWords(BadWords {
+            kind: BadKind::Missing,
+            place: 0,
+        }),
+        2,
+        "backup: bad words at 0: missing\n",
+    ),
+    (
+        Outcome::BadWords(BadWords {
+            kind: BadKind::Command,
+            place: 0,
+        }),
+        2,
+        "backup: bad words at 0: command\n",
+    ),
+    (
+        Outcome::BadWords(BadWords {
+            kind: BadKind::Name,
+            place: 1,
+        }),
+        2,
+        "backup: bad words at 1: name\n",
+    ),
+    (
+        Outcome::BadWords(BadWords {
+            kind: BadKind::Number,
+            place: 2,
+        }),
+        2,
+        "backup: bad words at 2: number\n",
+    ),
+    (
+        Outcome::BadWords(BadWords {
+            kind: BadKind::Key,
+            place: 1,
+        }),
+        2,
+        "backup: bad words at 1: key\n",
+    ),
+    (
+        Outcome::BadWords(BadWords {
+            kind: BadKind::Twice,
+            place: 12,
+        }),
+        2,
+        "backup: bad words at 12: twice\n",
+    ),
+    (
+        Outcome::BadWords(BadWords {
+            kind: BadKind::Value,
+            place: 3,
+        }),
+        2,
+        "backup: bad words at 3: value\n",
+    ),
+    (
+        Outcome::BadParams(BadParams::Polynomial),
+        14,
+        "backup: bad parameter: polynomial\n",
+    ),
+    (
+        Outcome::BadParams(BadParams::Bits),
+        14,
+        "backup: bad parameter: bits\n",
+    ),
+    (
+        Outcome::BadParams(BadParams::Target),
+        14,
+        "backup: bad parameter: target\n",
+    ),
+    (
+        Outcome::BadParams(BadParams::Min),
+        14,
+        "backup: bad parameter: min\n",
+    ),
+    (
+        Outcome::BadParams(BadParams::Max),
+        14,
+        "backup: bad parameter: max\n",
+    ),
+    (Outcome::InputTooLong, 8, "backup: input too long\n"),
+    (Outcome::SourceFault, 10, "backup: reading failed\n"),
+    (Outcome::SinkFault, 11, "backup: writing failed\n"),
+    (Outcome::OutOfMemory, 13, "backup: out of memory\n"),
+];
+
 #[test]
 fn each_outcome_has_its_status_and_its_note(rt: HostRuntime) -> Result<(), Fail> {
     let alloc = rt.alloc();
-    let bad = |kind, place| Outcome::BadWords(BadWords { kind, place });
-    for (outcome, status, note) in [
-        (Outcome::Done, 0, ""),
-        (
-            bad(BadKind::Missing, 0),
-            2,
-            "backup: bad words at 0: missing\n",
-        ),
-        (
-            bad(BadKind::Command, 0),
-            2,
-            "backup: bad words at 0: command\n",
-        ),
-        (bad(BadKind::Name, 1), 2, "backup: bad words at 1: name\n"),
-        (
-            bad(BadKind::Number, 2),
-            2,
-            "backup: bad words at 2: number\n",
-        ),
-        (bad(BadKind::Key, 1), 2, "backup: bad words at 1: key\n"),
-        (
-            bad(BadKind::Twice, 12),
-            2,
-            "backup: bad words at 12: twice\n",
-        ),
-        (bad(BadKind::Value, 3), 2, "backup: bad words at 3: value\n"),
-        (
-            Outcome::BadParams(BadParams::Polynomial),
-            14,
-            "backup: bad parameter: polynomial\n",
-        ),
-        (
-            Outcome::BadParams(BadParams::Bits),
-            14,
-            "backup: bad parameter: bits\n",
-        ),
-        (
-            Outcome::BadParams(BadParams::Target),
-            14,
-            "backup: bad parameter: target\n",
-        ),
-        (
-            Outcome::BadParams(BadParams::Min),
-            14,
-            "backup: bad parameter: min\n",
-        ),
-        (
-            Outcome::BadParams(BadParams::Max),
-            14,
-            "backup: bad parameter: max\n",
-        ),
-        (Outcome::InputTooLong, 8, "backup: input too long\n"),
-        (Outcome::SourceFault, 10, "backup: reading failed\n"),
-        (Outcome::SinkFault, 11, "backup: writing failed\n"),
-        (Outcome::OutOfMemory, 13, "backup: out of memory\n"),
-    ] {
+    for (outcome, status, note) in NOTES {
         assert_eq!(rt; status_of(&outcome), status);
         let text = note_of(alloc, &outcome)?;
         assert_eq!(rt; text.as_str(), note);

@@ -1,8 +1,10 @@
-ghost use Rattle.std.specs.Prelude.{◌≡◌};
-ghost use Rattle.sd_base.specs.Words.{command_of, params_of as params_set, plan_of};
-ghost use Rattle.backup_top.specs.Words.{texts_of};
+ghost use Rattle.std.specs.Prelude.{◌≡◌, OnOk};
+ghost use Rattle.std.specs.Result.{result_err};
+ghost use Rattle.sd_base.specs.Keys.{bad_kind_of};
+ghost use Rattle.sd_base.specs.Words.{command_of, params_keys, plan_of};
+ghost use Rattle.backup_top.specs.Words.{params_after, texts_of};
 
-use crate::keys::{Key, Spelling, first_bad_word, value_or_default};
+use crate::keys::{Key, Spelling, read_value, split_word};
 use sd_base::{
     BadKind, BadWords, Command, DEFAULT_BITS, DEFAULT_MAX, DEFAULT_MIN, DEFAULT_POLYNOMIAL,
     DEFAULT_SEGMENT, DEFAULT_TARGET, DEFAULT_WORKERS, Quiet, RawParams,
@@ -29,36 +31,52 @@ pub fn read_words(words: &[String]) -> Result<Command, BadWords>
     }
 }
 
-// Reads the words after `plan`.
+// Reads the words after `plan`. Each word before the one that fails sets a key of its own, so its
+// place is at most one more than the number of keys.
 fn read_plan(words: &[String]) -> Result<Command, BadWords>
     ensures { result ≡ plan_of (texts_of words.now) }
 {
-    if let Some(bad) = first_bad_word(&PARAMS_KEYS, words) {
-        return Err(bad);
+    let mut raw = DEFAULT_PARAMS;
+    for (i, word) in words.iter().enumerate() {
+        if let Err(kind) = set_parameter(&mut raw, &words[..i], word.as_str()) {
+            let place = i as u32 + 1;
+            return Err(BadWords { kind, place });
+        }
     }
     Ok(Command::Quiet(Quiet::Plan {
-        raw: params_of(words),
+        raw,
         workers: DEFAULT_WORKERS,
         segment: DEFAULT_SEGMENT,
     }))
 }
 
-// The parameters that the words set.
-fn params_of(words: &[String]) -> RawParams
-    ensures { result ≡ params_set (texts_of words.now) }
+// Sets the parameter that a word names, unless the word is bad after the words before it. Each
+// number of 32 bits is read, and `Params::new` refuses those out of its range.
+fn set_parameter(raw: &mut RawParams, before: &[String], word: &str) -> Result<(), BadKind>
+    ensures bad { result_err result ≡ bad_kind_of params_keys (texts_of before.now) word.now }
+    ensures set { OnOk result (raw.new ≡ params_after word.now raw.old) }
 {
-    RawParams {
-        polynomial: value_or_default(words, &POLYNOMIAL, DEFAULT_POLYNOMIAL),
-        bits: value_or_default(words, &BITS, DEFAULT_BITS as u64) as u32,
-        target: value_or_default(words, &TARGET, DEFAULT_TARGET as u64) as u32,
-        min: value_or_default(words, &MIN, DEFAULT_MIN as u64) as u32,
-        max: value_or_default(words, &MAX, DEFAULT_MAX as u64) as u32,
+    let Some((name, value)) = split_word(word) else {
+        return Err(BadKind::Key);
+    };
+    match name {
+        "polynomial" => raw.polynomial = read_value(&POLYNOMIAL, before, value)?,
+        "bits" => raw.bits = read_value(&BITS, before, value)? as u32,
+        "target" => raw.target = read_value(&TARGET, before, value)? as u32,
+        "min" => raw.min = read_value(&MIN, before, value)? as u32,
+        "max" => raw.max = read_value(&MAX, before, value)? as u32,
+        _ => return Err(BadKind::Key),
     }
+    Ok(())
 }
 
-// The keys that set parameters. Each number of 32 bits is read, and `Params::new` refuses those out
-// of its range.
-const PARAMS_KEYS: [Key; 5] = [POLYNOMIAL, BITS, TARGET, MIN, MAX];
+const DEFAULT_PARAMS: RawParams = RawParams {
+    polynomial: DEFAULT_POLYNOMIAL,
+    bits: DEFAULT_BITS,
+    target: DEFAULT_TARGET,
+    min: DEFAULT_MIN,
+    max: DEFAULT_MAX,
+};
 
 const POLYNOMIAL: Key = Key {
     name: "polynomial",

@@ -1,5 +1,7 @@
--- Streams of bytes: reads and writes, one after another. For `read_all`, `write_all` and
--- `MemSource`.
+-- Streams of bytes: reads and writes, one after another. For `read_all`, `write_all`, `MemSource`
+-- and `file_io`.
 mod Streams
 -- The entries of a shelf in memory: looked up, changed and added. For `entries` and `MemShelf`.
 mod EntryLemmas
+-- The path of a container. For `write_path`.
+mod Paths

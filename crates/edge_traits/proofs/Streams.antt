@@ -3,6 +3,8 @@ use Rattle.std.proofs.Common.{◌≡◌, ℕ, ◌+◌, ◌-◌, ◌<◌, List, [
 use Rattle.std.specs.Prelude.{Option, Some, None, option_map}
 use Rattle.std.proofs.lemmas.List.{drop-drop, nil_from_length, take_rest}
 use Rattle.std.proofs.Math.Seq.{take-add}
+use Rattle.std.specs.Io.KnownBytes as known
+use Rattle.std.proofs.KnownBytes.{Appends-trans, Consumes-trans}
 use Rattle.edge_traits.specs.Sink.{Appends}
 use Rattle.edge_traits.specs.Source.{Consumes}
 
@@ -41,3 +43,15 @@ pub none_left : (bytes all : List ℕ) (at room k : ℕ) → all ≡ bytes → k
 none_left bytes all at room k same count some none =
     nil_from_length (drop at bytes)
     (omega (arith, count, none, some, ap length (take_rest all at), ap (λ (l : List ℕ). length (drop at l)) same))
+
+-- two parts of one piece are written in turn to a writer of std
+pub writes_more : (a b c : Option (List ℕ)) (n k : ℕ) (piece : List ℕ) → known.Appends a b (take n piece) → known.Appends b c (take k (take (length piece - n) (drop n piece))) → known.Appends a c (take (n + k) piece)
+writes_more a b c n k piece p q =
+    let rest : known.Appends b c (take k (drop n piece)) = subst (λ (l : List ℕ). known.Appends b c (take k l)) (take_rest piece n) q in
+    rw (take-add n k piece) (Appends-trans a b c (take n piece) (take k (drop n piece)) p rest)
+
+-- a read of a reader of std that puts bytes after the front of a piece keeps this front
+pub reads_more : (a b c : Option (List ℕ)) (n k : ℕ) (before after : List ℕ) → take n after ≡ take n before → known.Consumes a b (take n before) → known.Consumes b c (take k (drop n after)) → known.Consumes a c (take (n + k) after)
+reads_more a b c n k before after kept p q =
+    let first : known.Consumes a b (take n after) = subst (λ (l : List ℕ). known.Consumes a b l) (sym kept) p in
+    rw (take-add n k after) (Consumes-trans a b c (take n after) (take k (drop n after)) first q)

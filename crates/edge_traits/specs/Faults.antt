@@ -25,3 +25,9 @@ pub record CountsFailed {T : Type 0} (result : Result T EdgeFault) (before after
   pub out_of_memory : IsErrOf result OutOfMemory → after ≡ before
   pub ok : OnOk result (after ≡ before)
   pub small : after < 2 ^ 64 - 1
+
+-- One more fault is counted if the call failed, and none otherwise. The count stays at 2^64 - 1.
+pub record CountsIfFailed {T : Type 0} (result : Result T EdgeFault) (before after : ℕ) : Type 0 where
+  pub failed : IsErrOf result Failed → CountsFault before after
+  pub out_of_memory : IsErrOf result OutOfMemory → after ≡ before
+  pub ok : OnOk result (after ≡ before)

@@ -11,3 +11,5 @@ pub mod MemShelf
 pub mod Reads
 pub mod ReadAll
 pub mod Std
+pub mod FileNames
+pub mod FolderShelf

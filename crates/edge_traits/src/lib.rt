@@ -6,8 +6,8 @@
 //! device is observable if its contents are known to the contract: the bytes that a source has
 //! left, those that were written to a sink, the files of a shelf. `MemSource`, `MemSink`,
 //! `MemShelf` and `NoShelf` are observable. The first three fail only at calls that are
-//! planned in advance. `StdSource` and `StdSink` are standard input and output, which are not
-//! observable.
+//! planned in advance. `StdSource` and `StdSink` are standard input and output, and `FolderShelf` is
+//! a folder of files. These three are not observable.
 //!
 //! `read_all` reads a whole input, and `write_all` writes a whole piece.
 #![tactic(auto)]
@@ -16,10 +16,15 @@ mod copy;
 mod entries;
 mod fault;
 mod fault_plan;
+mod file_io;
+mod file_names;
+mod folder;
+mod folder_shelf;
 mod mem_shelf;
 mod mem_sink;
 mod mem_source;
 mod no_shelf;
+mod open_files;
 mod retry;
 mod shelf;
 mod shelf_plan;
@@ -32,6 +37,7 @@ mod std_source;
 mod tally;
 
 pub use fault::EdgeFault;
+pub use folder_shelf::FolderShelf;
 pub use mem_shelf::MemShelf;
 pub use mem_sink::MemSink;
 pub use mem_source::MemSource;
@@ -46,6 +52,8 @@ pub use source_reader::{ReadFault, read_all};
 pub use std_sink::StdSink;
 pub use std_source::StdSource;
 
+#[cfg(test)]
+mod folder_tests;
 #[cfg(test)]
 mod shelf_tests;
 #[cfg(test)]

@@ -1,18 +1,7 @@
 use super::read_words;
 use crate::tests::words;
-use sd_base::{
-    BadKind, BadWords, Command, DEFAULT_BITS, DEFAULT_MAX, DEFAULT_MIN, DEFAULT_POLYNOMIAL,
-    DEFAULT_SEGMENT, DEFAULT_TARGET, DEFAULT_WORKERS, Quiet, RawParams,
-};
+use sd_base::{BadKind, BadWords, Command, DEFAULT_SEGMENT, DEFAULT_WORKERS, Quiet, RawParams};
 use std::test::Fail;
-
-const DEFAULT_PARAMS: RawParams = RawParams {
-    polynomial: DEFAULT_POLYNOMIAL,
-    bits: DEFAULT_BITS,
-    target: DEFAULT_TARGET,
-    min: DEFAULT_MIN,
-    max: DEFAULT_MAX,
-};
 
 fn plan(raw: RawParams) -> Result<Command, BadWords> {
     Ok(Command::Quiet(Quiet::Plan {
@@ -22,67 +11,53 @@ fn plan(raw: RawParams) -> Result<Command, BadWords> {
     }))
 }
 
+// Command lines, and the word of each that fails.
+const BAD: [(&str, BadKind, u32); 30] = [
+    ("store", BadKind::Missing, 0),
+    ("store,Plan", BadKind::Command, 0),
+    ("store,--help", BadKind::Command, 0),
+    ("store,init", BadKind::Command, 0),
+    ("store,list", BadKind::Command, 0),
+    ("store,,bits=13", BadKind::Command, 0),
+    ("store,plan,speed=3", BadKind::Key, 1),
+    ("store,plan,Bits=3", BadKind::Key, 1),
+    ("store,plan,bits", BadKind::Key, 1),
+    ("store,plan,", BadKind::Key, 1),
+    ("store,plan,=3", BadKind::Key, 1),
+    ("store,plan,bits=13,bits", BadKind::Key, 2),
+    ("store,plan,bits=13,speed=3,bits=13", BadKind::Key, 2),
+    ("store,plan,bits=13,bits=99", BadKind::Twice, 2),
+    ("store,plan,bits=13,min=64,bits=", BadKind::Twice, 3),
+    ("store,plan,bits=", BadKind::Value, 1),
+    ("store,plan,bits=07", BadKind::Value, 1),
+    ("store,plan,bits=+7", BadKind::Value, 1),
+    ("store,plan,bits=-7", BadKind::Value, 1),
+    ("store,plan,bits=7 ", BadKind::Value, 1),
+    ("store,plan,bits=d", BadKind::Value, 1),
+    ("store,plan,bits==3", BadKind::Value, 1),
+    ("store,plan,max=4294967296", BadKind::Value, 1),
+    ("store,plan,max=18446744073709551616", BadKind::Value, 1),
+    ("store,plan,max=100000000000000000000", BadKind::Value, 1),
+    ("store,plan,polynomial=0x11", BadKind::Value, 1),
+    ("store,plan,polynomial=1g", BadKind::Value, 1),
+    ("store,plan,polynomial=00000000000000011", BadKind::Value, 1),
+    (
+        "store,plan,max=256,min=64,target=1,bits=13,polynomial=3,bits=14",
+        BadKind::Twice,
+        6,
+    ),
+    (
+        "store,plan,max=256,min=64,target=1,bits=13,polynomial=3,workers=1",
+        BadKind::Key,
+        6,
+    ),
+];
+
 #[test]
 fn the_first_word_that_fails_is_named(rt: HostRuntime) -> Result<(), Fail> {
     let alloc = rt.alloc();
-    let none: &[&str] = &[];
-    for (texts, kind, place) in [
-        (none, BadKind::Missing, 0),
-        (&["Plan"], BadKind::Command, 0),
-        (&["--help"], BadKind::Command, 0),
-        (&["init"], BadKind::Command, 0),
-        (&["list"], BadKind::Command, 0),
-        (&["", "bits=13"], BadKind::Command, 0),
-        (&["plan", "speed=3"], BadKind::Key, 1),
-        (&["plan", "Bits=3"], BadKind::Key, 1),
-        (&["plan", "bits"], BadKind::Key, 1),
-        (&["plan", ""], BadKind::Key, 1),
-        (&["plan", "=3"], BadKind::Key, 1),
-        (&["plan", "bits=13", "bits"], BadKind::Key, 2),
-        (&["plan", "bits=13", "speed=3", "bits=13"], BadKind::Key, 2),
-        (&["plan", "bits=13", "bits=99"], BadKind::Twice, 2),
-        (&["plan", "bits=13", "min=64", "bits="], BadKind::Twice, 3),
-        (&["plan", "bits="], BadKind::Value, 1),
-        (&["plan", "bits=07"], BadKind::Value, 1),
-        (&["plan", "bits=+7"], BadKind::Value, 1),
-        (&["plan", "bits=-7"], BadKind::Value, 1),
-        (&["plan", "bits=7 "], BadKind::Value, 1),
-        (&["plan", "bits=d"], BadKind::Value, 1),
-        (&["plan", "bits==3"], BadKind::Value, 1),
-        (&["plan", "max=4294967296"], BadKind::Value, 1),
-        (&["plan", "max=18446744073709551616"], BadKind::Value, 1),
-        (&["plan", "max=100000000000000000000"], BadKind::Value, 1),
-        (&["plan", "polynomial=0x11"], BadKind::Value, 1),
-        (&["plan", "polynomial=1g"], BadKind::Value, 1),
-        (&["plan", "polynomial=00000000000000011"], BadKind::Value, 1),
-        (
-            &[
-                "plan",
-                "max=256",
-                "min=64",
-                "target=1",
-                "bits=13",
-                "polynomial=3",
-                "bits=14",
-            ],
-            BadKind::Twice,
-            6,
-        ),
-        (
-            &[
-                "plan",
-                "max=256",
-                "min=64",
-                "target=1",
-                "bits=13",
-                "polynomial=3",
-                "workers=1",
-            ],
-            BadKind::Key,
-            6,
-        ),
-    ] {
-        let words = words(alloc, texts)?;
+    for (line, kind, place) in BAD {
+        let words = words(alloc, line)?;
         assert_eq!(rt; read_words(words.as_slice()), Err(BadWords { kind, place }));
     }
     Ok(())
@@ -91,65 +66,57 @@ fn the_first_word_that_fails_is_named(rt: HostRuntime) -> Result<(), Fail> {
 #[test]
 fn keys_in_any_order_set_the_parameters(rt: HostRuntime) -> Result<(), Fail> {
     let alloc = rt.alloc();
-    let row = RawParams {
-        polynomial: 0x8000_0000_0000_0001,
-        bits: 13,
-        target: 1,
-        min: 64,
-        max: 256,
-    };
-    let none: &[&str] = &[];
-    for (texts, raw) in [
-        (none, DEFAULT_PARAMS),
+    for (line, polynomial, bits, target, min, max) in [
+        ("store,plan", 0x3D_A335_8B4D_C173, 13, 120, 2048, 65536),
         (
-            &[
-                "polynomial=8000000000000001",
-                "bits=13",
-                "target=1",
-                "min=64",
-                "max=256",
-            ],
-            row,
+            "store,plan,polynomial=8000000000000001,bits=13,target=1,min=64,max=256",
+            0x8000_0000_0000_0001,
+            13,
+            1,
+            64,
+            256,
         ),
         (
-            &[
-                "max=256",
-                "target=1",
-                "polynomial=8000000000000001",
-                "min=64",
-                "bits=13",
-            ],
-            row,
+            "store,plan,max=256,target=1,polynomial=8000000000000001,min=64,bits=13",
+            0x8000_0000_0000_0001,
+            13,
+            1,
+            64,
+            256,
         ),
         (
-            &["target=5", "min=64"],
-            RawParams {
-                target: 5,
-                min: 64,
-                ..DEFAULT_PARAMS
-            },
+            "store,plan,target=5,min=64",
+            0x3D_A335_8B4D_C173,
+            13,
+            5,
+            64,
+            65536,
         ),
         (
-            &["polynomial=FFFFFFFFFFFFFFFF", "max=4294967295"],
-            RawParams {
-                polynomial: 0xFFFF_FFFF_FFFF_FFFF,
-                max: 4_294_967_295,
-                ..DEFAULT_PARAMS
-            },
+            "store,plan,polynomial=FFFFFFFFFFFFFFFF,max=4294967295",
+            0xFFFF_FFFF_FFFF_FFFF,
+            13,
+            120,
+            2048,
+            4_294_967_295,
         ),
         (
-            &["polynomial=000000000001aBcD", "bits=0"],
-            RawParams {
-                polynomial: 0x1_ABCD,
-                bits: 0,
-                ..DEFAULT_PARAMS
-            },
+            "store,plan,polynomial=000000000001aBcD,bits=0",
+            0x1_ABCD,
+            0,
+            120,
+            2048,
+            65536,
         ),
     ] {
-        let mut words = words(alloc, &["plan"])?;
-        for text in texts {
-            words.push(String::from_str(alloc, text)?)?;
-        }
+        let raw = RawParams {
+            polynomial,
+            bits,
+            target,
+            min,
+            max,
+        };
+        let words = words(alloc, line)?;
         assert_eq!(rt; read_words(words.as_slice()), plan(raw));
     }
     Ok(())

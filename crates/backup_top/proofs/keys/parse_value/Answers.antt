@@ -4,8 +4,8 @@ use Rattle.backup_top.specs.Keys.{key_spec_of}
 use Rattle.backup_top.proofs.KeysNumbers.{is_read, number_outside}
 use Rattle.backup_top.proofs.keys.parse_value.Goals as goal
 
-pub returns-in_default : goal.returns-in_default
-returns-in_default c =
+pub returns-in_default-clause-value : goal.returns-in_default-clause-value
+returns-in_default-clause-value c =
     let key = key_spec_of c.args.key.now in
     let text = c.args.text.now in
     let parses = rw (c.base.ensures.value, c.in_default.is) at c.from_str_radix.ensures.value in
