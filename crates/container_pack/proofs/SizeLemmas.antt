@@ -5,7 +5,8 @@ use Rattle.std.proofs.lemmas.Bool.{le-leb, lt-leb}
 use Rattle.sd_base.specs.Packing.{container_sizes, sizes_on}
 use Rattle.sd_base.specs.declared.limits.TheConstants.{CONTAINER_HEADER, MAX_CONTAINER}
 
--- the sizes of the open container, if there is one, and of those that chunks of these lengths need after it
+-- the sizes of the open container, if there is one, and of those that chunks of these lengths need
+-- after it
 abbrev pub sizes_from : Option ℕ → List ℕ → List ℕ
 sizes_from None ns = container_sizes ns
 sizes_from (Some size) ns = sizes_on size ns

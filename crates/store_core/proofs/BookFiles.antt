@@ -182,7 +182,8 @@ stated-none bytes is = elim (cases_lt (length bytes) (1 + NUMBER_LEN)) [
       let clash : None ≡ Some (AROUND_BODY + stated_length bytes) = is ∙ rw (le-ltb (length bytes) (1 + NUMBER_LEN) enough) refl in absurd cc
 ]
 
--- the walk over whole records: at position `at` of a file of `size` bytes, after `counter` of so many records
+-- the walk over whole records: at position `at` of a file of `size` bytes, after `counter` of so
+-- many records
 module _ (records counter at size : ℕ) where
   abbrev SoFar : List ℕ → Type 0
   SoFar bytes = at + whole_len (records - counter) (drop at bytes) ≡ whole_len records bytes

@@ -14,6 +14,7 @@ whole_len (suc n) bytes =
     if is_short bytes then 0
     else (AROUND_BODY + stated_length bytes) + whole_len n (drop (AROUND_BODY + stated_length bytes) bytes)
 
--- the length of the record whose kind and length these bytes begin with, if they are enough for that
+-- the length of the record whose kind and length these bytes begin with, if they are enough for
+-- that
 abbrev pub stated_record : List ℕ → Option ℕ
 stated_record bytes = if nat_lt (length bytes) (1 + NUMBER_LEN) then None else Some (AROUND_BODY + stated_length bytes)

@@ -17,8 +17,9 @@ use std::alloc::Global;
 /// Bytes of a record before its body: its kind and the length of the body.
 const RECORD_HEAD: usize = 1 + NUMBER_LEN;
 
-/// Reads the committed records of a generation, one for each byte of its seal, and replays them. Bytes after them are not
-/// read, so a tail costs no memory. No chunk of the records is longer than `max` bytes.
+/// Reads the committed records of a generation, one for each byte of its seal, and replays them.
+/// Bytes after them are not read, so a tail costs no memory. No chunk of the records is longer than
+/// `max` bytes.
 pub(crate) fn read_book<F: Shelf>(
     alloc: Global,
     shelf: &mut F,
@@ -75,7 +76,8 @@ fn read_records<F: Shelf>(
     Ok(bytes)
 }
 
-// The bytes that the first records of a file take, by the lengths that they state. A record that is not whole ends them.
+// The bytes that the first records of a file take, by the lengths that they state. A record that is
+// not whole ends them.
 fn records_len<F: Shelf>(shelf: &mut F, file: File, records: u64) -> Result<u64, EdgeFault>
     ensures whole { IfOk result (λ size. IfSome (content (F.files shelf.old) file) (λ bytes. size ≡ whole_len records bytes)) }
 
@@ -100,7 +102,8 @@ fn records_len<F: Shelf>(shelf: &mut F, file: File, records: u64) -> Result<u64,
     Ok(end)
 }
 
-// The length of the record at a place of a file, as its first bytes state it. There is none if the file ends before.
+// The length of the record at a place of a file, as its first bytes state it. There is none if the
+// file ends before.
 fn stated_len<F: Shelf>(shelf: &mut F, file: File, at: u64) -> Result<Option<u64>, EdgeFault>
     ensures stated { IfOk result (λ stated. IfSome (content (F.files shelf.old) file) (λ bytes.
         stated ≡ stated_record (drop at bytes))) }

@@ -15,12 +15,13 @@ use edge_traits::{EdgeFault, File, Shelf};
 use sd_base::{COMMIT_BYTE, OPEN_HEAD_LEN, Params};
 use std::alloc::Global;
 
-/// Makes a store with these parameters on a shelf that has none. Nothing of an older store counts afterwards: its head
-/// and the seal of generation 0 are cut to nothing, and bytes of other files are unsealed.
+/// Makes a store with these parameters on a shelf that has none. Nothing of an older store counts
+/// afterwards: its head and the seal of generation 0 are cut to nothing, and bytes of other files
+/// are unsealed.
 ///
-/// The settings are flushed before the byte that opens the store is appended, and that is flushed too. `StoreThere` is
-/// returned exactly if the head has at least 33 bytes, and then nothing has changed. `ShelfFault` is returned only if the
-/// shelf's count of faults rose.
+/// The settings are flushed before the byte that opens the store is appended, and that is flushed
+/// too. `StoreThere` is returned exactly if the head has at least 33 bytes, and then nothing has
+/// changed. `ShelfFault` is returned only if the shelf's count of faults rose.
 pub fn init<F: Shelf>(_alloc: Global, shelf: &mut F, params: &Params) -> Result<(), StoreFault>
     ensures held { OnOk result (IfSome (F.files shelf.new) (λ files.
         (name_of : List ℕ → List ℕ) → HoldState name_of files (new_state (numbers_of params.now)))) }

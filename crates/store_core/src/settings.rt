@@ -55,8 +55,8 @@ pub fn settings_of(params: &Params) -> [u8; SETTINGS_SIZE]
     ]
 }
 
-/// The valid parameters whose settings these bytes are. There are none exactly if the bytes are the settings of no valid
-/// parameters.
+/// The valid parameters whose settings these bytes are. There are none exactly if the bytes are the
+/// settings of no valid parameters.
 pub(crate) fn read_settings(bytes: &[u8; SETTINGS_SIZE]) -> Option<Params>
     ensures read { IfSome result (λ params. bytes.now ≡ settings_of (numbers_of params)) }
     ensures none { IfNone result ((raw : RawParams) → IsValid raw → bytes.now ≡ settings_of raw → ⊥) }

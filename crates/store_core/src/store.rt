@@ -45,8 +45,7 @@ impl<N: Namer> Store<N> {
     /// Opens the store on a shelf, and writes nothing. The verdict is that of the definition: there
     /// is no store if the head has fewer than 33 bytes; otherwise the first damage is returned, of
     /// the head, the records, the recipes and the sizes of the containers, in this order; otherwise
-    /// the store. Files that hold a lawful state are never found damaged. `ShelfFault` is returned
-    /// only if the shelf's count of faults rose.
+    /// the store. `ShelfFault` is returned only if the shelf's count of faults rose.
     pub fn open<F: Shelf>(alloc: Global, shelf: &mut F, namer: N) -> Result<Store<N>, StoreFault>
         ensures opened { IfOk result (λ store. IfSome (F.files shelf.old) (λ files. OpenAs files store)) }
         ensures no_store { result ≡ Err StoreFault.NoStore → IfSome (F.files shelf.old) HoldNoStore }

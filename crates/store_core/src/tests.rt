@@ -126,8 +126,8 @@ fn a_failing_call_is_a_fault_of_the_shelf(rt: HostRuntime) -> Result<(), Fail> {
             "call {call} fails"
         );
     }
-    // Opening an empty store asks for the sizes of its head, its seal and its book, and reads the settings and an empty
-    // front of the book.
+    // Opening an empty store asks for the sizes of its head, its seal and its book, and reads the
+    // settings and an empty front of the book.
     for call in 8..13 {
         let mut shelf = shelf_with(&rt, &[ShelfFail { call, kept: 0 }])?;
         assert_eq!(rt; init(rt.alloc(), &mut shelf, &params), Ok(()));
