@@ -1,13 +1,13 @@
 -- What a replay finds in the whole records at the front of a book's file, it finds in the file.
-use Rattle.std.proofs.Common.{◌≡◌, inl, inr, ℕ, zero, suc, ◌+◌, ◌-◌, ◌^◌, ◌<◌, ◌≤◌, Bool, true, false, List, [], ◌∷◌, ◌++◌, length, take, drop, refl, sym, ap, subst, ◌∙◌, append_assoc, length-append, arith}
-use Rattle.std.specs.Prelude.{◌||◌, IfSome, Option, Some, None, nat_lt, unwrap_or}
+use Rattle.std.proofs.Common.{◌≡◌, inl, inr, ℕ, zero, suc, ◌+◌, ◌-◌, ◌^◌, ◌<◌, ◌≤◌, true, false, List, [], ◌∷◌, ◌++◌, length, take, drop, refl, sym, ap, subst, ◌∙◌, append_assoc, length-append, arith}
+use Rattle.std.specs.Prelude.{IfSome, Option, Some, None, unwrap_or}
 use Rattle.std.proofs.lemmas.Bool.{cases_lt, le-ltb, lt-ltb}
 use Rattle.std.proofs.lemmas.List.{drop_at, drop-drop, take-append-drop, take-append-le, length-drop, length-take}
 use Rattle.std.proofs.lemmas.Nat.{from_be_bytes-to_be_bytes_4}
 use Rattle.sha2.specs.Sha256.{sha256}
 use Rattle.sha2.proofs.Facts256.{length-sha256}
-use Rattle.sd_base.specs.Books.{AreRecords, HoldsRecords, IsBookDamage, IsFirstBadRecord, IsRecordDamage, IsRecipeDamage, IsReplay, BookState, MayFollow, book_of, sessions_of, followed_by}
-use Rattle.sd_base.specs.Records.{BeginsWith, IsRecord, body_of, digested, kind_of, sealed, spelling_of, stated_length, u32_bytes}
+use Rattle.sd_base.specs.Books.{AreRecords, HoldsRecords, IsBookDamage, IsFirstBadRecord, IsReplay, BookState, book_of, followed_by}
+use Rattle.sd_base.specs.Records.{BeginsWith, IsRecord, body_of, digested, kind_of, spelling_of, stated_length, u32_bytes}
 use Rattle.sd_base.specs.declared.damage.Damage.{Damage}
 use Rattle.sd_base.specs.declared.record.Record.{Record}
 use Rattle.sd_base.specs.declared.record.Session.{Session}

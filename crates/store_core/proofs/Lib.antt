@@ -8,3 +8,5 @@ mod BookFiles
 mod OpeningLemmas
 -- the parts of the verdict of opening, put together
 mod StoreLemmas
+-- opening has one verdict
+mod Verdicts

@@ -1,10 +1,10 @@
 -- The parts of the verdict of opening, put together.
-use Rattle.std.proofs.Common.{◌≡◌, inl, inr, ℕ, ◌<◌, ◌≤◌, List, length, ap, refl, sym, subst, ◌∙◌}
+use Rattle.std.proofs.Common.{◌≡◌, inl, inr, ℕ, ◌<◌, ◌≤◌, List, length, ap, refl, sym, ◌∙◌}
 use Rattle.std.proofs.Math.Path.{fun_ext}
 use Rattle.std.specs.Prelude.{Err, IfSome, IsErrAnd, None, Ok, Option, Result, Some, slice_index_or}
 use Rattle.edge_traits.specs.Shelf.{SameFiles}
 use Rattle.sd_base.specs.Books.{BookState, IsBookDamage, IsReplay}
-use Rattle.sd_base.specs.Opening.{HasHead, HeadState, IsHeadDamage, IsOpeningDamage, OpenAs, Opened, needed_sizes}
+use Rattle.sd_base.specs.Opening.{HasHead, HeadState, IsHeadDamage, IsOpeningDamage, OpenAs, needed_sizes}
 use Rattle.sd_base.specs.declared.damage.Damage.{Damage}
 use Rattle.sd_base.specs.declared.file.File.{File}
 use Rattle.sd_base.specs.declared.file.File.TheVariants.{Book as BookFile, Container, Head, Seal}

@@ -1,5 +1,5 @@
 -- How much of a book's file its committed records take, by the lengths that they state.
-use Rattle.std.specs.Prelude.{ℕ, zero, suc, ◌+◌, ◌||◌, nat_lt, Bool, if◌then◌else◌, List, [], length, drop, Option, Some, None}
+use Rattle.std.specs.Prelude.{ℕ, zero, suc, ◌+◌, ◌||◌, nat_lt, Bool, if◌then◌else◌, List, length, drop, Option, Some, None}
 use Rattle.sd_base.specs.Records.{stated_length}
 use Rattle.sd_base.specs.declared.record.TheConstants.{AROUND_BODY, NUMBER_LEN}
 

@@ -10,3 +10,5 @@ pub mod Heads
 pub mod BookFiles
 -- what opening finds of the containers
 pub mod Containers
+-- opening has one verdict
+pub mod Verdicts

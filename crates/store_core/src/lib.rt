@@ -1,22 +1,23 @@
-//! The store: what a folder of files holds as one value, and what leads from one state of it to the
-//! next. It uses the definitions of `sd_base`, the shelf of `edge_traits`, the packer of
-//! `container_pack`, the namers of `chunk_names` and the book of `session_book`. All rules here are
-//! this project's own.
+//! The store: what a folder of files holds, as one value. It uses the definitions of `sd_base`, the
+//! shelf of `edge_traits`, the sizes of `container_pack`, the namers of `chunk_names` and the book of
+//! `session_book`. All rules here are this project's own.
 //!
 //! `init` makes a store and `Store::open` opens one. A store is held to the verdict of opening that
 //! `sd_base` defines: what is first found wrong is named, in the order head, records, recipes,
-//! containers.
+//! containers. No files have two verdicts (`opening_has_one_verdict`).
 #![tactic(auto)]
 
 mod book_file;
 mod containers;
 mod fault;
 mod head_file;
+mod laws;
 mod new_store;
 mod settings;
 mod store;
 
 pub use fault::StoreFault;
+pub use laws::{held_states_are_undamaged, opening_has_one_verdict};
 pub use new_store::init;
 pub use settings::settings_of;
 pub use store::Store;

@@ -20,8 +20,8 @@ use std::alloc::Global;
 /// are unsealed.
 ///
 /// The settings are flushed before the byte that opens the store is appended, and that is flushed
-/// too. `StoreThere` is returned exactly if the head has at least 33 bytes, and then nothing has
-/// changed. `ShelfFault` is returned only if the shelf's count of faults rose.
+/// too. `StoreThere` is returned only if the head has at least 33 bytes, and then no file has changed.
+/// `ShelfFault` is returned only if the shelf's count of faults rose.
 pub fn init<F: Shelf>(_alloc: Global, shelf: &mut F, params: &Params) -> Result<(), StoreFault>
     ensures held { OnOk result (IfSome (F.files shelf.new) (λ files.
         (name_of : List ℕ → List ℕ) → HoldState name_of files (new_state (numbers_of params.now)))) }

@@ -3,7 +3,7 @@ use Rattle.std.specs.Prelude.{IfSome}
 use Rattle.edge_traits.specs.Shelf.{content}
 use Rattle.sd_base.specs.Books.{IsBookDamage}
 use Rattle.store_core.specs.BookFiles.{whole_len}
-use Rattle.sd_base.specs.declared.file.File.TheVariants.{Book as BookFile, Seal}
+use Rattle.sd_base.specs.declared.file.File.TheVariants.{Book as BookFile}
 use Rattle.store_core.proofs.OpeningLemmas.{damage-files, damage-of_fault, replay-files}
 use Rattle.store_core.proofs.book_file.read_book.Goals as goal
 

@@ -1,5 +1,5 @@
 use Rattle.std.proofs.Common.{rules, ◌≡◌, arith, subst}
-use Rattle.std.specs.Prelude.{IfSome, None, Option, Some, ℕ}
+use Rattle.std.specs.Prelude.{IfSome, Option, ℕ}
 use Rattle.edge_traits.specs.Shelf.{content}
 use Rattle.store_core.specs.BookFiles.{stated_record}
 use Rattle.std.specs.Prelude.{drop}

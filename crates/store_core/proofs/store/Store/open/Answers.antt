@@ -1,4 +1,4 @@
-use Rattle.std.proofs.Common.{◌≡◌, ℕ, List, IfSome, ap, subst, ◌∙◌}
+use Rattle.std.proofs.Common.{ℕ, List, IfSome, ap, subst, ◌∙◌}
 use Rattle.sd_base.specs.Opening.{needed_sizes}
 use Rattle.sd_base.specs.Packing.{container_sizes}
 use Rattle.store_core.specs.Containers.{IsFirstShort}
