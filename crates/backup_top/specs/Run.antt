@@ -9,6 +9,7 @@ use Rattle.edge_traits.specs.Faults.{Rose}
 use Rattle.edge_traits.specs.Sink.{Appends, AppendsPrefix}
 use Rattle.edge_traits.specs.Source.{IsAtEnd, LosesAtMost}
 use Rattle.sd_base.specs.OnePass.{Pass}
+use Rattle.sd_base.specs.Words.{default_workers, default_segment}
 use Rattle.sd_base.specs.declared.limits.TheConstants.{MAX_INPUT}
 use Rattle.sd_base.specs.declared.words.BadWords.{BadWords as Refusal}
 use Rattle.sd_base.specs.declared.words.Command.{Command}
@@ -65,8 +66,8 @@ IsSilent (BadParams kind) = ⊤
 IsSilent InputTooLong = ⊤
 IsSilent SourceFault = ⊤
 
--- A device failed in a run: its count of faults rose, and it was not known that it would not fail
--- any more.
+-- A device failed in a run: its count of faults rose, and it was not known that it would never
+-- fail again.
 pub record HasFailed (faultless : Type 0) (before after : ℕ) : Type 0 where
   pub rose : Rose before after
   pub may_fail : faultless → ⊥
@@ -76,7 +77,7 @@ pub record CountsFaults {D : Type 0} (faults : D → ℕ) (faultless : D → Typ
     (before after : D) : Type 0 where
   -- The count never falls.
   pub never_falls : faults before ≤ faults after
-  -- If the device will not fail any more, it counts no fault, and it still will not fail.
+  -- If the device will never fail again, it counts no fault, and that stays so.
   pub counts_none : faultless before → faults after ≡ faults before
   pub stays_faultless : faultless before → faultless after
 
@@ -148,4 +149,4 @@ LeavesShelf (Err _) before after = after ≡ before
 
 -- the fields of a command that no word sets yet have their defaults
 abbrev pub HasDefaultWorkersAndSegment : Quiet → Type 0
-HasDefaultWorkersAndSegment (Plan _ workers segment) = (workers ≡ 4) × (segment ≡ 65536)
+HasDefaultWorkersAndSegment (Plan _ workers segment) = (workers ≡ default_workers) × (segment ≡ default_segment)

@@ -33,7 +33,7 @@ shelf_faults shelf = shelf.plan.tally.faults
 abbrev pub kept_next : MemShelf → Option ℕ
 kept_next shelf = fail_at (failing_calls shelf) (shelf_calls shelf)
 
--- It will not fail any more: each call that is to fail has been made.
+-- It will never fail again: each call that is to fail has been made.
 abbrev pub IsFaultlessShelf : MemShelf → Type 0
 IsFaultlessShelf shelf = ArePast (failing_calls shelf) (shelf_calls shelf)
 

@@ -18,6 +18,6 @@ write_calls sink = sink.plan.tally.calls
 abbrev pub write_faults : MemSink → ℕ
 write_faults sink = sink.plan.tally.faults
 
--- It will not fail any more: each write that is to fail has been made.
+-- It will never fail again: each write that is to fail has been made.
 abbrev pub IsFaultlessSink : MemSink → Type 0
 IsFaultlessSink sink = All (λ number. number < write_calls sink) (failing_writes sink)

@@ -22,6 +22,6 @@ read_calls source = source.plan.tally.calls
 abbrev pub read_faults : MemSource → ℕ
 read_faults source = source.plan.tally.faults
 
--- It will not fail any more: each read that is to fail has been made.
+-- It will never fail again: each read that is to fail has been made.
 abbrev pub IsFaultlessSource : MemSource → Type 0
 IsFaultlessSource source = All (λ number. number < read_calls source) (failing_reads source)

@@ -97,7 +97,7 @@ where
         if self.flush_failed {
             return Err(EdgeFault::Failed);
         }
-        if !self.files.needs_flush(file) {
+        if self.files.is_flushed(file) {
             return Ok(());
         }
         let Some(mut open) = self.take_readable(file)? else {
@@ -142,8 +142,6 @@ where
     ) -> Result<(), EdgeFault> {
         if changed.is_ok() {
             self.files.put(open);
-        } else {
-            self.files.close(open);
         }
         changed.map_err(fault_of)
     }
@@ -168,7 +166,6 @@ where
             if open.is_writable {
                 return Ok(open);
             }
-            self.files.close(open);
         }
         let found = self.find(file)?;
         let mut how = OpenOptions::new();
@@ -196,7 +193,7 @@ where
             handle,
             len,
             is_writable: how.asks_append(),
-            is_flushed: !self.files.needs_flush(file),
+            is_flushed: false,
         })
     }
 

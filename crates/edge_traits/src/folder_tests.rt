@@ -244,17 +244,17 @@ fn a_failed_flush_is_never_taken_for_done(rt: HostRuntime) -> Result<(), Fail> {
 }
 
 #[test]
-fn a_changed_file_that_lost_its_place_is_flushed(rt: HostRuntime) -> Result<(), Fail> {
+fn the_first_flush_reaches_what_an_earlier_run_left(rt: HostRuntime) -> Result<(), Fail> {
     let syncs = Syncs::new(0);
-    fs::create_dir(&rt, "full")?;
-    let mut shelf = FolderShelf::new(Faulty { rt, syncs: &syncs }, rt.alloc(), "full")?;
-    shelf.append(File::Container(0, 0), b"a")?;
-    shelf.append(File::Container(0, 64), b"b")?;
-    shelf.flush(File::Container(0, 64))?;
-    assert_eq!(rt; syncs.made.load(SeqCst), 2);
-    shelf.flush(File::Container(0, 0))?;
-    assert_eq!(rt; syncs.made.load(SeqCst), 3);
-    shelf.flush(File::Container(0, 0))?;
-    assert_eq!(rt; syncs.made.load(SeqCst), 3);
+    fs::create_dir(&rt, "left")?;
+    fs::write(&rt, "left/seal.0", b"a")?;
+    let mut shelf = FolderShelf::new(Faulty { rt, syncs: &syncs }, rt.alloc(), "left")?;
+    // A cut that changes nothing opens no file.
+    shelf.cut(File::Seal(0), 1)?;
+    for _ in 0..2 {
+        shelf.flush(File::Seal(0))?;
+        // One sync of the file and one of the folder.
+        assert_eq!(rt; syncs.made.load(SeqCst), 2);
+    }
     Ok(())
 }

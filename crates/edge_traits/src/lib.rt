@@ -5,9 +5,9 @@
 //! The traits are `Source`, `Sink` and `Shelf`; a value that implements one of them is a device. A
 //! device is observable if its contents are known to the contract: the bytes that a source has
 //! left, those that were written to a sink, the files of a shelf. `MemSource`, `MemSink`,
-//! `MemShelf` and `NoShelf` are observable. The first three fail only at calls that are
-//! planned in advance. `StdSource` and `StdSink` are standard input and output, and `FolderShelf` is
-//! a folder of files. These three are not observable.
+//! `MemShelf` and `NoShelf` are observable. The first three fail only at calls that are planned in
+//! advance. `StdSource` and `StdSink` are standard input and output, and `FolderShelf` is a folder
+//! of files. These three are not observable.
 //!
 //! `read_all` reads a whole input, and `write_all` writes a whole piece.
 #![tactic(auto)]

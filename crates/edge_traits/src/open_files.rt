@@ -20,7 +20,7 @@ pub(crate) struct OpenFile<F> {
     pub(crate) len: u64,
     /// Whether it is open for appending and not for reading alone.
     pub(crate) is_writable: bool,
-    /// Whether what was done to it has been flushed.
+    /// Whether this run has flushed it since it opened or changed it last.
     pub(crate) is_flushed: bool,
 }
 
@@ -30,8 +30,6 @@ pub(crate) struct OpenFile<F> {
 #[derive(Drop)]
 pub(crate) struct OpenFiles<F> {
     places: Vec<Option<OpenFile<F>>>,
-    /// Whether a file was closed before what was done to it had been flushed.
-    closed_unflushed: bool,
     ghost complete: { vec_len places ≡ PLACES },
 }
 
@@ -42,10 +40,7 @@ impl<F: Drop> OpenFiles<F> {
         for _ in 0..PLACES {
             places.push(None)?;
         }
-        Ok(OpenFiles {
-            places,
-            closed_unflushed: false,
-        })
+        Ok(OpenFiles { places })
     }
 
     /// The number of bytes of a file, if it is open.
@@ -53,13 +48,10 @@ impl<F: Drop> OpenFiles<F> {
         self.find(file).map(|open| open.len)
     }
 
-    /// Whether a flush of this file has anything to do. A file that is not open may be one that was
-    /// closed unflushed.
-    pub(crate) fn needs_flush(&self, file: File) -> bool {
-        match self.find(file) {
-            Some(open) => !open.is_flushed,
-            None => self.closed_unflushed,
-        }
+    /// Whether a flush of this file has nothing to do. A file that is not open may have changes that
+    /// were not flushed, of this run or of one before it.
+    pub(crate) fn is_flushed(&self, file: File) -> bool {
+        self.find(file).is_some_and(|open| open.is_flushed)
     }
 
     /// Takes a file out of the table, if it is open.
@@ -75,16 +67,7 @@ impl<F: Drop> OpenFiles<F> {
     /// Puts a file into the table. The one that had its place is closed.
     pub(crate) fn put(&mut self, open: OpenFile<F>) {
         let place = place_of(open.file);
-        if let Some(closed) = self.places[place].replace(open) {
-            self.close(closed);
-        }
-    }
-
-    /// Closes a file that was taken out.
-    pub(crate) fn close(&mut self, open: OpenFile<F>) {
-        if !open.is_flushed {
-            self.closed_unflushed = true;
-        }
+        self.places[place] = Some(open);
     }
 
     fn find(&self, file: File) -> Option<&OpenFile<F>> {

@@ -20,7 +20,7 @@ pub trait Shelf: Send {
     /// How often the shelf has failed. The count never falls.
     ghost faults: { Self → ℕ };
 
-    /// The device will not fail any more.
+    /// The device will never fail again.
     ghost faultless: { Self → Type 0 };
 
     /// The number of bytes of a file, 0 if it does not exist. Changes nothing.

@@ -14,12 +14,12 @@ pub trait Sink: Send {
     /// How often the sink has failed. The count never falls.
     ghost faults: { Self → ℕ };
 
-    /// The device will not fail any more.
+    /// The device will never fail again.
     ghost faultless: { Self → Type 0 };
 
     /// Takes some bytes from the front of the piece and returns how many: at least one of a piece
-    /// that is not empty. `Failed` comes only if the device's count of faults rose in the call. After
-    /// a refusal `written` is as it was.
+    /// that is not empty. `Failed` comes only if the device's count of faults rose in the call.
+    /// After a refusal `written` is as it was.
     fn write(&mut self, bytes: &[u8]) -> Result<usize, EdgeFault>
         ensures bound { IfOk result (λ k. k ≤ length bytes.now) }
         ensures progress { IfOk result (λ k. 0 < length bytes.now → 1 ≤ k) }

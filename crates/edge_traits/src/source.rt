@@ -14,7 +14,7 @@ pub trait Source: Send {
     /// How often the source has failed. The count never falls.
     ghost faults: { Self → ℕ };
 
-    /// The device will not fail any more.
+    /// The device will never fail again.
     ghost faultless: { Self → Type 0 };
 
     /// Puts the next bytes into the front of `into` and returns how many. 0 for an `into` that is

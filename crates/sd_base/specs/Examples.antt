@@ -1,7 +1,7 @@
 -- Worked examples of the definitions, each computed by the checker. Each result is known from
 -- another source: modulo t^63 + 1 the exponent of a power of t counts modulo 63, the fingerprint
 -- under the default polynomial was worked out by long division, and the name of `abc` is an example
--- of FIPS 180-4.
+-- of FIPS 180-2.
 use Rattle.std.specs.Prelude.{◌≡◌, ℕ, ◌^◌, List, [], ◌∷◌, ◌++◌, replicate, take, codes, true, false, Some, None, Ok}
 use Rattle.std.specs.Int.Count.{count_leading_zeros}
 use Rattle.std.specs.Fmt.{digits}

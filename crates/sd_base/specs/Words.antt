@@ -15,9 +15,16 @@ use Rattle.sd_base.specs.declared.words.Command.TheVariants.{Quiet}
 abbrev pub default_params : RawParams
 default_params = record { polynomial = 0x3DA3358B4DC173; bits = 13; target = 120; min = 2048; max = 65536 }
 
+-- the number of workers and the bytes of a segment, which no word sets yet
+abbrev pub default_workers : ℕ
+default_workers = 4
+
+abbrev pub default_segment : ℕ
+default_segment = 65536
+
 -- `plan` if no key is given
 abbrev pub default_plan : Command
-default_plan = Quiet (Plan default_params 4 65536)
+default_plan = Quiet (Plan default_params default_workers default_segment)
 
 -- the keys that set parameters. The polynomial is given in hexadecimal digits of either case.
 abbrev pub polynomial_key : Key
@@ -59,7 +66,8 @@ unless_bad (Some bad) command = Err bad
 
 -- the words after `plan`
 abbrev pub plan_of : List (List ℕ) → Result Command BadWords
-plan_of words = unless_bad (first_bad_word params_keys [] 1 words) (Quiet (Plan (params_of words) 4 65536))
+plan_of words = unless_bad (first_bad_word params_keys [] 1 words)
+    (Quiet (Plan (params_of words) default_workers default_segment))
 
 -- the command that the words name, or the first word that fails
 abbrev pub command_of : List (List ℕ) → Result Command BadWords

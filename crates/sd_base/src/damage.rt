@@ -1,8 +1,8 @@
 /// What is wrong with a store: the first flaw that is found, with the least numbers that name it.
 /// Records, sessions, places, containers and chunks are counted from 0.
 ///
-/// So far only a book is checked: a replay returns `Record` or `Recipe`, and nothing returns the
-/// other variants yet. They are for opening a whole store and for looking through it.
+/// A replay of a book returns `Record` or `Recipe`, and opening a store also `Head` or `Container`.
+/// Nothing returns the other variants yet: they are for looking through what the containers hold.
 #[derive(Clone, Copy, Debug, PartialEq, Eq)]
 pub enum Damage {
     /// The settings exist but are not those of valid parameters, or there are more than 65,535

@@ -2,7 +2,8 @@ use super::hex_of;
 use crate::{LengthNamer, Namer, Sha256Namer};
 use std::test::Fail;
 
-// The two names by SHA-256 are examples of FIPS 180-4.
+// The name of `abc` is an example of FIPS 180-2, and that of no bytes is the first of NIST's test
+// vectors of SHA-256 for short messages.
 const OF_NOTHING: &str = "e3b0c44298fc1c149afbf4c8996fb92427ae41e4649b934ca495991b7852b855";
 
 const OF_ABC: &str = "ba7816bf8f01cfea414140de5dae2223b00361a396177a9cb410ff61f20015ad";
