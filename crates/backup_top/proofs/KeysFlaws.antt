@@ -21,7 +21,10 @@ other_name name key other = elim (cases_Bool (is_named name key)) [
 ]
 
 -- what is wrong with a word that is cut into a name and a value, from the key of this name
-pub bad_kind_at : (keys : List Key) (before : List (List ℕ)) (word name value : List ℕ) (key : Option Key) → list_any is_equals_sign word ≡ true → name ≡ key_name_of word → value ≡ value_of word → find (is_named name) keys ≡ key → bad_kind_of_value key (list_any (sets_key name) before) value ≡ bad_kind_of keys before word
+pub bad_kind_at : (keys : List Key) (before : List (List ℕ)) (word name value : List ℕ) (key : Option Key)
+    → list_any is_equals_sign word ≡ true → name ≡ key_name_of word → value ≡ value_of word
+    → find (is_named name) keys ≡ key
+    → bad_kind_of_value key (list_any (sets_key name) before) value ≡ bad_kind_of keys before word
 bad_kind_at keys before word name value key cut left right known =
     let known_left = rw left at known in
     rw (cut, known_left, left, right) refl
@@ -32,27 +35,33 @@ unset [] words = 0
 unset (key ∷ keys) words = cond (list_any (sets_key key.name) words) 0 1 + unset keys words
 
 -- one more word, after which each key that was set is set
-more : (keys : List Key) (before : List (List ℕ)) (word : List ℕ) → unset keys (before ++ word ∷ []) ≤ unset keys before
+more : (keys : List Key) (before : List (List ℕ)) (word : List ℕ)
+    → unset keys (before ++ word ∷ []) ≤ unset keys before
 more [] before word = omega arith
 more (key ∷ keys) before word =
     let rest = more keys before word in
     elim (cases_Bool (list_any (sets_key key.name) before)) [
       | inl set ↦ rw (list_any-append (sets_key key.name) before (word ∷ []), set) (omega arith)
       | inr free ↦ elim (cases_Bool (sets_key key.name word)) [
-        | inl sets_it ↦ rw (list_any-append (sets_key key.name) before (word ∷ []), free, sets_it) (omega arith)
+        | inl sets_it ↦ rw (list_any-append (sets_key key.name) before (word ∷ []), free, sets_it)
+            (omega arith)
         | inr not ↦ rw (list_any-append (sets_key key.name) before (word ∷ []), free, not) (omega arith)
       ]
     ]
 
 -- a word that sets a key that was not set
-one_less : (keys : List Key) (before : List (List ℕ)) (word : List ℕ) → find (is_named (key_name_of word)) keys ≢ None → list_any (sets_key (key_name_of word)) before ≡ false → unset keys (before ++ word ∷ []) + 1 ≤ unset keys before
+one_less : (keys : List Key) (before : List (List ℕ)) (word : List ℕ)
+    → find (is_named (key_name_of word)) keys ≢ None → list_any (sets_key (key_name_of word)) before ≡ false
+    → unset keys (before ++ word ∷ []) + 1 ≤ unset keys before
 one_less [] before word known free = absurd (known refl)
 one_less (key ∷ keys) before word known free =
     elim (cases_Bool (is_named (key_name_of word) key)) [
       | inl here ↦
           let same : key.name ≡ key_name_of word = (bytes_eq-Decides key.name (key_name_of word)).0 here in
-          let was : list_any (sets_key key.name) before ≡ false = ap (λ name. list_any (sets_key name) before) same ∙ free in
-          let is : sets_key key.name word ≡ true = (bytes_eq-Decides (key_name_of word) key.name).1 (sym same) in
+          let was : list_any (sets_key key.name) before ≡ false =
+          ap (λ name. list_any (sets_key name) before) same ∙ free in
+          let is : sets_key key.name word ≡ true =
+          (bytes_eq-Decides (key_name_of word) key.name).1 (sym same) in
           let rest = more keys before word in
           rw (list_any-append (sets_key key.name) before (word ∷ []), was, is) (omega arith)
       | inr other ↦
@@ -62,26 +71,41 @@ one_less (key ∷ keys) before word known free =
           omega arith
     ]
 
-no_bad_kind_of_value : (key : Option Key) (twice : Bool) (value : List ℕ) → bad_kind_of_value key twice value ≡ None → (key ≢ None) × (twice ≡ false)
+no_bad_kind_of_value : (key : Option Key) (twice : Bool) (value : List ℕ)
+    → bad_kind_of_value key twice value ≡ None → (key ≢ None) × (twice ≡ false)
 no_bad_kind_of_value None twice value none = absurd (cc)
 no_bad_kind_of_value (Some key) true value none = absurd (cc)
 no_bad_kind_of_value (Some key) false value none = (λ no. absurd (cc), refl)
 
 -- what is known of a word without a flaw
-pub no_flaw : (keys : List Key) (before : List (List ℕ)) (word : List ℕ) → bad_kind_of keys before word ≡ None → (find (is_named (key_name_of word)) keys ≢ None) × (list_any (sets_key (key_name_of word)) before ≡ false)
+pub no_flaw : (keys : List Key) (before : List (List ℕ)) (word : List ℕ)
+    → bad_kind_of keys before word ≡ None
+    → (find (is_named (key_name_of word)) keys ≢ None)
+    × (list_any (sets_key (key_name_of word)) before ≡ false)
 no_flaw keys before word none = elim (cases_Bool (list_any is_equals_sign word)) [
   | inl cut ↦ no_bad_kind_of_value _ _ (value_of word) (rw cut at none)
   | inr uncut ↦ absurd (let bad = rw uncut at none in cc)
 ]
 
 -- a word without a flaw leaves one key less
-pub left_step : {A : Type 0} (f : A → List ℕ) (keys : List Key) (words : List A) (i : ℕ) (d : A) → i < length words → bad_kind_of keys (map f (take i words)) (f (get_or words i d)) ≡ None → unset keys (map f (take (i + 1) words)) + 1 ≤ unset keys (map f (take i words))
+pub left_step : {A : Type 0} (f : A → List ℕ) (keys : List Key) (words : List A) (i : ℕ) (d : A)
+    → i < length words → bad_kind_of keys (map f (take i words)) (f (get_or words i d)) ≡ None
+    → unset keys (map f (take (i + 1) words)) + 1 ≤ unset keys (map f (take i words))
 left_step f keys words i d within none =
     let known = no_flaw keys (map f (take i words)) (f (get_or words i d)) none in
     rw (add-one i, take-suc words i d within, map-append f (take i words) (get_or words i d ∷ []))
     (one_less keys (map f (take i words)) (f (get_or words i d)) known.0 known.1)
 
 -- if a word has no flaw, the first flaw is a later word's
-pub later_step : {A : Type 0} (f : A → List ℕ) (keys : List Key) (words : List A) (i : ℕ) (d : A) → i < length words → bad_kind_of keys (map f (take i words)) (f (get_or words i d)) ≡ None → first_bad_word keys (map f (take i words)) (i + 1) (map f (drop i words)) ≡ first_bad_word keys (map f (take (i + 1) words)) (i + 1 + 1) (map f (drop (i + 1) words))
+pub later_step : {A : Type 0} (f : A → List ℕ) (keys : List Key) (words : List A) (i : ℕ) (d : A)
+    → i < length words → bad_kind_of keys (map f (take i words)) (f (get_or words i d)) ≡ None
+    → first_bad_word keys (map f (take i words)) (i + 1) (map f (drop i words))
+    ≡ first_bad_word keys (map f (take (i + 1) words)) (i + 1 + 1) (map f (drop (i + 1) words))
 later_step f keys words i d within none =
-    rw (drop-cons words i d within, none, add-one i, take-suc words i d within, map-append f (take i words) (get_or words i d ∷ [])) refl
+    rw (
+      drop-cons words i d within,
+      none,
+      add-one i,
+      take-suc words i d within,
+      map-append f (take i words) (get_or words i d ∷ []),
+    ) refl

@@ -8,7 +8,8 @@ use Rattle.std.specs.Result.{OkIff}
 use Rattle.std.specs.Str.Parse.{AllDigits, IsNumeral, ParsesUnsigned, digits_value, without_leading_plus}
 use Rattle.sd_base.specs.Keys.{Key, is_spelled, number_of}
 
-all_digits : (base : ℕ) (text : List ℕ) → list_all (λ c. ltb (digit_value c) base) text ≡ true → AllDigits base text
+all_digits : (base : ℕ) (text : List ℕ) → list_all (λ c. ltb (digit_value c) base) text ≡ true
+    → AllDigits base text
 all_digits base [] all = tt
 all_digits base (c ∷ text) all =
     let parts = and_parts _ _ all in
@@ -17,7 +18,10 @@ all_digits base (c ∷ text) all =
 -- a digit is no plus sign
 no_plus : (base : ℕ) (text : List ℕ) → base ≤ 36 → AllDigits base text → get_or text 0 0 ≢ 43
 no_plus base [] small digits = λ e. omega arith
-no_plus base (c ∷ text) small digits = λ e. let same : digit_value c ≡ 36 = ap digit_value e in let low : digit_value c < base = digits.0 in omega arith
+no_plus base (c ∷ text) small digits = λ e.
+    let same : digit_value c ≡ 36 = ap digit_value e in
+    let low : digit_value c < base = digits.0 in
+    omega arith
 
 -- a text that spells a number is a numeral, and has no sign
 record Spells (key : Key) (text : List ℕ) : Type 0 where
@@ -39,7 +43,9 @@ spells key text small h =
     }
 
 -- a text that spells a number is read if that fits 64 bits
-pub is_read : {E : Type 0} (key : Key) (text : List ℕ) (r : Result ℕ E) → key.base ≤ 36 → is_spelled key text ≡ true → ParsesUnsigned 64 key.base text r → OkIff r (digits_value key.base text < 2 ^ 64) (digits_value key.base text)
+pub is_read : {E : Type 0} (key : Key) (text : List ℕ) (r : Result ℕ E) → key.base ≤ 36
+    → is_spelled key text ≡ true → ParsesUnsigned 64 key.base text r
+    → OkIff r (digits_value key.base text < 2 ^ 64) (digits_value key.base text)
 is_read key text (Ok value) small h parses =
     let s = spells key text small h in
     let own = rw s.no_sign at parses in
@@ -50,19 +56,41 @@ is_read key text (Err e) small h parses =
     λ few. own (s.numeral, few)
 
 -- a value out of the key's range
-pub number_outside : (key : Key) (text : List ℕ) → (key.least ≤ digits_value key.base text → digits_value key.base text ≤ key.greatest → ⊥) → number_of key text ≡ None
+pub number_outside : (key : Key) (text : List ℕ)
+    → (key.least ≤ digits_value key.base text → digits_value key.base text ≤ key.greatest → ⊥)
+    → number_of key text ≡ None
 number_outside key text outside = elim (cases_Bool (leb key.least (digits_value key.base text))) [
   | inr less ↦ rw less (search (rules, and_right))
-  | inl least ↦ rw (lt-leb (digits_value key.base text) key.greatest (omega (arith, outside (leb-true _ _ least)))) (search (rules, and_right))
+  | inl least ↦ rw (lt-leb (digits_value key.base text) key.greatest
+      (omega (arith, outside (leb-true _ _ least)))) (search (rules, and_right))
 ]
 
 -- what is left to test if the length and the digits of a text are right
-pub decimal_rest : (key : Key) (text : List ℕ) → key.base ≡ 10 → 1 ≤ length text → length text ≤ key.most_digits → list_all (λ c. ltb (digit_value c) key.base) text ≡ true → length text ≢ 1 → is_spelled key text ≡ not (eqb (get_or text 0 0) 48)
-decimal_rest key text ten some few digits long = rw (le-leb 1 (length text) some, le-leb (length text) key.most_digits few, digits, ten, ne_eqb (length text) 1 long) refl
+pub decimal_rest : (key : Key) (text : List ℕ) → key.base ≡ 10 → 1 ≤ length text
+    → length text ≤ key.most_digits → list_all (λ c. ltb (digit_value c) key.base) text ≡ true
+    → length text ≢ 1 → is_spelled key text ≡ not (eqb (get_or text 0 0) 48)
+decimal_rest key text ten some few digits long =
+    rw (
+      le-leb 1 (length text) some,
+      le-leb (length text) key.most_digits few,
+      digits,
+      ten,
+      ne_eqb (length text) 1 long,
+    ) refl
 
-pub other_rest : (key : Key) (text : List ℕ) → key.base ≢ 10 → 1 ≤ length text → length text ≤ key.most_digits → list_all (λ c. ltb (digit_value c) key.base) text ≡ true → is_spelled key text ≡ true
-other_rest key text other some few digits = rw (le-leb 1 (length text) some, le-leb (length text) key.most_digits few, digits, ne_eqb key.base 10 other) refl
+pub other_rest : (key : Key) (text : List ℕ) → key.base ≢ 10 → 1 ≤ length text
+    → length text ≤ key.most_digits → list_all (λ c. ltb (digit_value c) key.base) text ≡ true
+    → is_spelled key text ≡ true
+other_rest key text other some few digits =
+    rw (
+      le-leb 1 (length text) some,
+      le-leb (length text) key.most_digits few,
+      digits,
+      ne_eqb key.base 10 other,
+    ) refl
 
 -- one base for another that it is
-pub digits_at : (text : List ℕ) {base other : ℕ} → base ≡ other → list_all (λ c. ltb (digit_value c) base) text ≡ true → list_all (λ c. ltb (digit_value c) other) text ≡ true
+pub digits_at : (text : List ℕ) {base other : ℕ} → base ≡ other
+    → list_all (λ c. ltb (digit_value c) base) text ≡ true
+    → list_all (λ c. ltb (digit_value c) other) text ≡ true
 digits_at text e h = subst (λ b. list_all (λ c. ltb (digit_value c) b) text ≡ true) e h

@@ -19,7 +19,10 @@ one_passes p (x ∷ xs) e = elim (cases_Bool (p x)) [
   | inr fails ↦ rw fails (one_passes p xs (let no = rw fails at e in omega arith))
 ]
 
-pub sides_of : (word : List ℕ) (r : Option (Bor (List ℕ) × Bor (List ℕ))) → IsSplitOnceResult 61 word r → MatchOption r (list_any is_equals_sign word ≡ false) (λ sides. (list_any is_equals_sign word ≡ true) × (sides.0.now ≡ key_name_of word) × (sides.1.now ≡ value_of word))
+pub sides_of : (word : List ℕ) (r : Option (Bor (List ℕ) × Bor (List ℕ))) → IsSplitOnceResult 61 word r
+    → MatchOption r (list_any is_equals_sign word ≡ false)
+    (λ sides. (list_any is_equals_sign word ≡ true) × (sides.0.now ≡ key_name_of word)
+    × (sides.1.now ≡ value_of word))
 sides_of word None h = none_passes is_equals_sign word (split_once_first 61 word None h (lit< tt))
 sides_of word (Some sides) h =
     let f = split_once_first 61 word (Some sides) h (lit< tt) in

@@ -24,16 +24,25 @@ or_none None = refl
 or_none (Some x) = refl
 
 -- a word sets a key that no word before it sets, or leaves its value
-value_step : (key : Key) (before : List (List ℕ)) (word : List ℕ) (default : ℕ) → list_any (sets_key (key_name_of word)) before ≡ false → value_or_default (before ++ word ∷ []) key default ≡ value_after word key (value_or_default before key default)
+value_step : (key : Key) (before : List (List ℕ)) (word : List ℕ) (default : ℕ)
+    → list_any (sets_key (key_name_of word)) before ≡ false
+    → value_or_default (before ++ word ∷ []) key default
+    ≡ value_after word key (value_or_default before key default)
 value_step key before word default free = elim (cases_Bool (sets_key key.name word)) [
   | inl sets_it ↦
       let same : key_name_of word ≡ key.name = (bytes_eq-Decides (key_name_of word) key.name).0 sets_it in
-      let none = none_found (sets_key key.name) before (ap (λ name. list_any (sets_key name) before) (sym same) ∙ free) in
+      let none = none_found (sets_key key.name) before
+      (ap (λ name. list_any (sets_key name) before) (sym same) ∙ free) in
       rw (find-append (sets_key key.name) before (word ∷ []), none, sets_it) refl
-  | inr not ↦ rw (find-append (sets_key key.name) before (word ∷ []), not, or_none (find (sets_key key.name) before)) refl
+  | inr not ↦ rw (
+    find-append (sets_key key.name) before (word ∷ []),
+    not,
+    or_none (find (sets_key key.name) before),
+  ) refl
 ]
 
-params_step : (before : List (List ℕ)) (word : List ℕ) → bad_kind_of params_keys before word ≡ None → params_of (before ++ word ∷ []) ≡ params_after word (params_of before)
+params_step : (before : List (List ℕ)) (word : List ℕ) → bad_kind_of params_keys before word ≡ None
+    → params_of (before ++ word ∷ []) ≡ params_after word (params_of before)
 params_step before word none =
     let free = (no_flaw params_keys before word none).1 in
     rw (
@@ -45,7 +54,10 @@ params_step before word none =
     ) refl
 
 -- the same of the words of a list, up to one without a flaw
-pub set_step : {A : Type 0} (f : A → List ℕ) (words : List A) (i : ℕ) (d : A) → i < length words → bad_kind_of params_keys (map f (take i words)) (f (get_or words i d)) ≡ None → params_of (map f (take (i + 1) words)) ≡ params_after (f (get_or words i d)) (params_of (map f (take i words)))
+pub set_step : {A : Type 0} (f : A → List ℕ) (words : List A) (i : ℕ) (d : A) → i < length words
+    → bad_kind_of params_keys (map f (take i words)) (f (get_or words i d)) ≡ None
+    → params_of (map f (take (i + 1) words))
+    ≡ params_after (f (get_or words i d)) (params_of (map f (take i words)))
 set_step f words i d within none =
     rw (add-one i, take-suc words i d within, map-append f (take i words) (get_or words i d ∷ []))
     (params_step (map f (take i words)) (f (get_or words i d)) none)

@@ -98,7 +98,8 @@ pub record IsRunOn {K : Type 0} (pass : Pass) (outcome : Outcome) (source_failed
 
 -- Every run: `pass` is the definition's pass for each input.
 pub record IsRun {R K : Type 0} (pass : List ℕ → Pass) (outcome : Outcome)
-    (left : R → Option (List ℕ)) (read_faults : R → ℕ) (source_faultless : R → Type 0) (source_before source_after : R)
+    (left : R → Option (List ℕ)) (read_faults : R → ℕ) (source_faultless : R → Type 0)
+    (source_before source_after : R)
     (written_to : K → Option (List ℕ)) (write_faults : K → ℕ) (sink_faultless : K → Type 0)
     (sink_before sink_after : K) : Type 0 where
   -- There is an input, which is the source's bytes if the source is observable, and the run is that
@@ -149,4 +150,5 @@ LeavesShelf (Err _) before after = after ≡ before
 
 -- the fields of a command that no word sets yet have their defaults
 abbrev pub HasDefaultWorkersAndSegment : Quiet → Type 0
-HasDefaultWorkersAndSegment (Plan _ workers segment) = (workers ≡ default_workers) × (segment ≡ default_segment)
+HasDefaultWorkersAndSegment (Plan _ workers segment) =
+    (workers ≡ default_workers) × (segment ≡ default_segment)

@@ -4,6 +4,8 @@ use Rattle.std.specs.declared.alloc.Global.{Global}
 use Rattle.sd_base.specs.Keys.{Key, number_of, sets_key, value_of}
 use Rattle.sd_base.specs.Words.{polynomial_key, bits_key, target_key, min_key, max_key}
 use Rattle.sd_base.specs.declared.raw_params.RawParams.{RawParams}
+use Rattle.backup_top.specs.declared.words.Parameter.{Parameter}
+use Rattle.backup_top.specs.declared.words.Parameter.TheVariants.{Polynomial, Bits, Target, Min, Max}
 
 -- the bytes of each word
 abbrev pub texts_of : List (String Global) → List (List ℕ)
@@ -23,3 +25,19 @@ params_after word was = record {
   min = value_after word min_key was.min;
   max = value_after word max_key was.max;
 }
+
+-- the key of a parameter
+abbrev pub key_of : Parameter → Key
+key_of Polynomial = polynomial_key
+key_of Bits = bits_key
+key_of Target = target_key
+key_of Min = min_key
+key_of Max = max_key
+
+-- the parameters with another value of one of them
+abbrev pub with_value : Parameter → ℕ → RawParams → RawParams
+with_value Polynomial value was = record was { polynomial = value }
+with_value Bits value was = record was { bits = value }
+with_value Target value was = record was { target = value }
+with_value Min value was = record was { min = value }
+with_value Max value was = record was { max = value }

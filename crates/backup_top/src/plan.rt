@@ -1,15 +1,17 @@
 ghost use Rattle.std.specs.Prelude.{◌≡◌, ◌≤◌, ◌<◌, ◌+◌, ℕ, List, [], IfOk, IfSome, OnOk, IsErrOf, drop, length, option_map, string_bytes};
 ghost use Rattle.edge_traits.specs.Source.{IsAtEnd, LosesAtMost};
+ghost use Rattle.sd_base.specs.Cutting.{chunks_of};
 ghost use Rattle.sd_base.specs.OnePass.{pass_of_plan, pass_of_valid_plan};
 ghost use Rattle.sd_base.specs.Parameters.{bad_parameter};
 ghost use Rattle.sd_base.specs.Params.{numbers_of};
+ghost use Rattle.sd_base.specs.Texts.{plan_text};
 ghost use Rattle.sd_base.specs.declared.outcome.Outcome.TheVariants.{Done};
 ghost use Rattle.backup_top.specs.Run.{CountsFaults, EndsAs, HasFailed, IsInputOf, IsRun, ReadsInput, Writes};
 
 use crate::cuts::cuts_of_text;
 use crate::plan_text::text_of_plan;
 use edge_traits::{EdgeFault, ReadFault, Sink, Source, read_all, write_all};
-use sd_base::{MAX_INPUT, Outcome, Params, RawParams};
+use sd_base::{MAX_INPUT, OutOfMemory, Outcome, Params, RawParams};
 use std::alloc::Global;
 
 /// Cuts the input by these numbers and writes a line for each chunk.
@@ -71,8 +73,17 @@ fn read_plan_text<R: Source>(
     ensures taken_at_most { LosesAtMost (MAX_INPUT + 1) (R.left source.old) (R.left source.new) }
 {
     let input = read_all(alloc, source, MAX_INPUT)?;
-    let cuts = cuts_of_text(alloc, params, &input)?;
-    Ok(text_of_plan(alloc, &input, &cuts)?)
+    Ok(text_of_input(alloc, params, &input)?)
+}
+
+// The text of `plan` on an input.
+fn text_of_input(alloc: Global, params: &Params, input: &[u8]) -> Result<String, OutOfMemory>
+    requires { length input.now ≤ MAX_INPUT }
+    ensures { IfOk result (λ text.
+        string_bytes text ≡ plan_text (chunks_of (numbers_of params.now) input.now)) }
+{
+    let cuts = cuts_of_text(alloc, params, input)?;
+    text_of_plan(alloc, input, &cuts)
 }
 
 // Writes the whole text of a command that has done its work.

@@ -1,8 +1,11 @@
-ghost use Rattle.std.specs.Prelude.{◌≡◌, OnOk};
+ghost use Rattle.std.specs.Prelude.{◌≡◌, ◌≤◌, OnOk, MatchOption, None};
+ghost use Rattle.std.specs.List.{find};
 ghost use Rattle.std.specs.Result.{result_err};
+ghost use Rattle.std.specs.Str.{bytes_eq};
 ghost use Rattle.sd_base.specs.Keys.{bad_kind_of};
 ghost use Rattle.sd_base.specs.Words.{command_of, params_keys, plan_of};
-ghost use Rattle.backup_top.specs.Words.{params_after, texts_of};
+ghost use Rattle.backup_top.specs.Keys.{key_spec_of};
+ghost use Rattle.backup_top.specs.Words.{key_of, params_after, texts_of, with_value};
 
 use crate::keys::{Key, Spelling, read_value, split_word};
 use sd_base::{
@@ -56,18 +59,66 @@ fn set_parameter(raw: &mut RawParams, before: &[String], word: &str) -> Result<(
     ensures bad { result_err result ≡ bad_kind_of params_keys (texts_of before.now) word.now }
     ensures set { OnOk result (raw.new ≡ params_after word.now raw.old) }
 {
-    let Some((name, value)) = split_word(word) else {
+    let Some((name, text)) = split_word(word) else {
         return Err(BadKind::Key);
     };
-    match name {
-        "polynomial" => raw.polynomial = read_value(&POLYNOMIAL, before, value)?,
-        "bits" => raw.bits = read_value(&BITS, before, value)? as u32,
-        "target" => raw.target = read_value(&TARGET, before, value)? as u32,
-        "min" => raw.min = read_value(&MIN, before, value)? as u32,
-        "max" => raw.max = read_value(&MAX, before, value)? as u32,
-        _ => return Err(BadKind::Key),
-    }
+    let Some(parameter) = Parameter::named(name) else {
+        return Err(BadKind::Key);
+    };
+    let value = read_value(&parameter.key(), before, text)?;
+    parameter.set(raw, value);
     Ok(())
+}
+
+// A parameter that a word can set.
+#[derive(Clone, Copy)]
+enum Parameter {
+    Polynomial,
+    Bits,
+    Target,
+    Min,
+    Max,
+}
+
+impl Parameter {
+    fn named(name: &str) -> Option<Parameter>
+        ensures { MatchOption result (find (λ key. bytes_eq key.name name.now) params_keys ≡ None)
+            (λ parameter. name.now ≡ (key_of parameter).name) }
+    {
+        match name {
+            "polynomial" => Some(Parameter::Polynomial),
+            "bits" => Some(Parameter::Bits),
+            "target" => Some(Parameter::Target),
+            "min" => Some(Parameter::Min),
+            "max" => Some(Parameter::Max),
+            _ => None,
+        }
+    }
+
+    fn key(self) -> Key
+        ensures { key_spec_of result ≡ key_of self }
+    {
+        match self {
+            Parameter::Polynomial => POLYNOMIAL,
+            Parameter::Bits => BITS,
+            Parameter::Target => TARGET,
+            Parameter::Min => MIN,
+            Parameter::Max => MAX,
+        }
+    }
+
+    fn set(self, raw: &mut RawParams, value: u64)
+        requires { value ≤ (key_of self).greatest }
+        ensures { raw.new ≡ with_value self value raw.old }
+    {
+        match self {
+            Parameter::Polynomial => raw.polynomial = value,
+            Parameter::Bits => raw.bits = value as u32,
+            Parameter::Target => raw.target = value as u32,
+            Parameter::Min => raw.min = value as u32,
+            Parameter::Max => raw.max = value as u32,
+        }
+    }
 }
 
 const DEFAULT_PARAMS: RawParams = RawParams {

@@ -8,6 +8,7 @@ use Rattle.backup_top.proofs.cuts.cuts_of_text.Goals as goal
 pub returns : goal.returns
 returns c =
     let text = c.args.text.now in
-    let holds = subst (λ (t : List ℕ). HoldsCandidates (numbers_of c.args.params.now) t c.scan_range.new.map (length text)) (append-nil text)
+    let holds = subst (λ (t : List ℕ). HoldsCandidates (numbers_of c.args.params.now) t c.scan_range.new.map
+    (length text)) (append-nil text)
     (c.scan_range.ensures.from_empty (length text + 1) [] c.in_ok-map.ensures.empty refl) in
     c.cuts_from.ensures.of_whole_input text holds refl refl

@@ -12,23 +12,36 @@ use Rattle.backup_top.proofs.in_memory.run_in_memory.Goals as goal
 pub returns-clause-pass : goal.returns-clause-pass
 returns-clause-pass g c =
     let input = c.run-outcome.ensures.run.on_some_input.0 in
-    let same : input ≡ c.args.input.items = c.run-outcome.ensures.run.on_some_input.1 ∙ c.new-source.ensures.left in
+    let same : input ≡ c.args.input.items =
+    c.run-outcome.ensures.run.on_some_input.1 ∙ c.new-source.ensures.left in
     let on = c.run-outcome.ensures.run.on_some_input.2 in
     let pass = one_pass (texts_of c.args.words.now) input in
     let written : Writes c.run-outcome.result pass.text (Some []) (Some (written_of c.run-outcome.new.sink)) =
-    subst (λ (had : List ℕ). Writes c.run-outcome.result pass.text (Some had) (Some (written_of c.run-outcome.new.sink))) c.new-sink.ensures.written on.written in
-    let run : (pass ≡ record { outcome = c.run-outcome.result; text = written_of c.run-outcome.new.sink }) ⊎ (c.run-outcome.result ≡ OutOfMemory) =
-    faultless_run pass c.run-outcome.result _ _ (written_of c.run-outcome.new.sink) (text_of_refused (command_of (texts_of c.args.words.now)) input)
-    (λ failed. failed.may_fail (c.new-source.ensures.faultless c.new-2.ensures.items)) (λ failed. failed.may_fail (c.new-sink.ensures.faultless c.new-3.ensures.items)) on.answer written in
+    subst
+    (λ (had : List ℕ). Writes c.run-outcome.result pass.text (Some had)
+    (Some (written_of c.run-outcome.new.sink)))
+    c.new-sink.ensures.written on.written in
+    let run : (pass ≡ record { outcome = c.run-outcome.result; text = written_of c.run-outcome.new.sink })
+    ⊎ (c.run-outcome.result ≡ OutOfMemory) =
+    faultless_run pass c.run-outcome.result _ _ (written_of c.run-outcome.new.sink)
+    (text_of_refused (command_of (texts_of c.args.words.now)) input)
+    (λ failed. failed.may_fail (c.new-source.ensures.faultless c.new-2.ensures.items))
+    (λ failed. failed.may_fail (c.new-sink.ensures.faultless c.new-3.ensures.items))
+    on.answer written in
     rw (← same) run
 
 pub returns-clause-prefix : goal.returns-clause-prefix
 returns-clause-prefix g c =
     let input = c.run-outcome.ensures.run.on_some_input.0 in
-    let same : input ≡ c.args.input.items = c.run-outcome.ensures.run.on_some_input.1 ∙ c.new-source.ensures.left in
+    let same : input ≡ c.args.input.items =
+    c.run-outcome.ensures.run.on_some_input.1 ∙ c.new-source.ensures.left in
     let on = c.run-outcome.ensures.run.on_some_input.2 in
     let pass = one_pass (texts_of c.args.words.now) input in
     let written : Writes c.run-outcome.result pass.text (Some []) (Some (written_of c.run-outcome.new.sink)) =
-    subst (λ (had : List ℕ). Writes c.run-outcome.result pass.text (Some had) (Some (written_of c.run-outcome.new.sink))) c.new-sink.ensures.written on.written in
-    let prefix : (k : ℕ) × (written_of c.run-outcome.new.sink ≡ take k pass.text) = prefix_of_text c.run-outcome.result pass.text (written_of c.run-outcome.new.sink) written in
+    subst
+    (λ (had : List ℕ). Writes c.run-outcome.result pass.text (Some had)
+    (Some (written_of c.run-outcome.new.sink)))
+    c.new-sink.ensures.written on.written in
+    let prefix : (k : ℕ) × (written_of c.run-outcome.new.sink ≡ take k pass.text) =
+    prefix_of_text c.run-outcome.result pass.text (written_of c.run-outcome.new.sink) written in
     rw (← same) prefix

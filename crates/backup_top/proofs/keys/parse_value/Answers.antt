@@ -9,6 +9,8 @@ returns-in_default-clause-value c =
     let key = key_spec_of c.args.key.now in
     let text = c.args.text.now in
     let parses = rw (c.base.ensures.value, c.in_default.is) at c.from_str_radix.ensures.value in
-    let spelled : is_spelled key text ≡ true = ap (is_spelled key) (sym c.as_bytes.ensures.value) ∙ sym c.is_spelled.ensures ∙ c.if-not-is_spelled.false in
+    let spelled : is_spelled key text ≡ true =
+    ap (is_spelled key) (sym c.as_bytes.ensures.value) ∙ sym c.is_spelled.ensures
+    ∙ c.if-not-is_spelled.false in
     let large = is_read key text (Err c.in_default.field-0) (omega arith) spelled parses in
     sym (number_outside key text (λ least greatest. large (omega arith)))

@@ -19,9 +19,12 @@ loop-position-preserved c = λ q may.
           let e : q ≡ p = omega arith in
           let window : 48 ≤ p = omega arith in
           let within : p ≤ length c.args.input.now = omega arith in
-          let same : c.start.result.polynomial ≡ c.args.params.now.polynomial = c.start.ensures.polynomial ∙ c.requires.same_polynomial in
-          let matches : is_match (numbers_of c.args.params.now) (slice_range c.args.input.now (p - 48) p) ≡ false =
-          sym (ap (is_match (numbers_of c.args.params.now)) c.start.ensures.bytes) ∙ sym (c.is_match.ensures.same_polynomial same) ∙ c.if-is_match.false in
+          let same : c.start.result.polynomial ≡ c.args.params.now.polynomial =
+          c.start.ensures.polynomial ∙ c.requires.same_polynomial in
+          let matches : is_match (numbers_of c.args.params.now) (slice_range c.args.input.now (p - 48) p)
+          ≡ false =
+          sym (ap (is_match (numbers_of c.args.params.now)) c.start.ensures.bytes)
+          ∙ sym (c.is_match.ensures.same_polynomial same) ∙ c.if-is_match.false in
           let no : true ≡ false =
           sym may.candidate ∙ ap (is_candidate (numbers_of c.args.params.now) c.args.input.now) e
           ∙ is_candidate_here (numbers_of c.args.params.now) c.args.input.now p window within ∙ matches in
@@ -33,13 +36,16 @@ returns-then-is_match c =
     let p = c.loop-position.position in
     let window : 48 ≤ p = omega arith in
     let within : p ≤ length c.args.input.now = omega arith in
-    let same : c.start.result.polynomial ≡ c.args.params.now.polynomial = c.start.ensures.polynomial ∙ c.requires.same_polynomial in
+    let same : c.start.result.polynomial ≡ c.args.params.now.polynomial =
+    c.start.ensures.polynomial ∙ c.requires.same_polynomial in
     let matches : is_match (numbers_of c.args.params.now) (slice_range c.args.input.now (p - 48) p) ≡ true =
-    sym (ap (is_match (numbers_of c.args.params.now)) c.start.ensures.bytes) ∙ sym (c.is_match.ensures.same_polynomial same) ∙ c.if-is_match.true in
+    sym (ap (is_match (numbers_of c.args.params.now)) c.start.ensures.bytes)
+    ∙ sym (c.is_match.ensures.same_polynomial same) ∙ c.if-is_match.true in
     next_cut_is (numbers_of c.args.params.now) c.args.input.now c.args.start p (record {
       least = c.loop-position.invariant;
       ends = inl (record {
-        candidate = is_candidate_here (numbers_of c.args.params.now) c.args.input.now p window within ∙ matches;
+        candidate = is_candidate_here (numbers_of c.args.params.now) c.args.input.now p window within
+            ∙ matches;
         long_enough = omega arith;
         within = omega arith;
       });

@@ -7,7 +7,8 @@ use Rattle.backup_top.proofs.reference_cutting.plain_cuts.Given as goal
 abbrev pub invariant-loop-start : goal.invariant-loop-start
 invariant-loop-start l = record {
   within : l.start ≤ length l.input;
-  so_far : cuts_of (numbers_of l.params) l.input ≡ l.cuts.items ++ cuts_within (length l.input - l.start) (numbers_of l.params) l.input l.start;
+  so_far : cuts_of (numbers_of l.params) l.input
+      ≡ l.cuts.items ++ cuts_within (length l.input - l.start) (numbers_of l.params) l.input l.start;
 }
 
 abbrev pub decreases-loop-start : goal.decreases-loop-start

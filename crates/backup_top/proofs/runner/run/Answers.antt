@@ -11,7 +11,9 @@ pub returns-in-Err-clause-run : goal.returns-in-Err-clause-run
 returns-in-Err-clause-run g c =
     let some = some_input (g.R.Source.left c.args.source.now) in
     subst
-    (λ (command : Result Command Refusal). IsRun (pass_of command) (BadWords c.in-Err.bad) g.R.Source.left g.R.Source.faults g.R.Source.faultless
-    c.args.source.now c.args.source.now g.K.Sink.written g.K.Sink.faults g.K.Sink.faultless c.args.sink.now c.args.sink.now)
+    (λ (command : Result Command Refusal). IsRun (pass_of command) (BadWords c.in-Err.bad)
+    g.R.Source.left g.R.Source.faults g.R.Source.faultless c.args.source.now c.args.source.now
+    g.K.Sink.written g.K.Sink.faults g.K.Sink.faultless c.args.sink.now c.args.sink.now)
     c.in-Err.ensures
-    (unwritten _ _ _ _ _ _ _ _ _ _ _ some.0 some.1 refl (λ _. refl) refl (counts_of_uncalled _ _ _) (λ _. refl))
+    (unwritten _ _ _ _ _ _ _ _ _ _ _ some.0 some.1 refl (λ _. refl) refl
+    (counts_of_uncalled _ _ _) (λ _. refl))

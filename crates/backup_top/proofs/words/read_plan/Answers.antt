@@ -11,12 +11,15 @@ loop-i-preserved c =
     let words = c.args.words.now in
     let i = c.loop-i.i in
     let word = c.index-words-i.result in
-    let text : c.as_str.result.now ≡ string_bytes (get_or words i word) = c.as_str.ensures.value ∙ ap string_bytes c.index-words-i.is in
+    let text : c.as_str.result.now ≡ string_bytes (get_or words i word) =
+    c.as_str.ensures.value ∙ ap string_bytes c.index-words-i.is in
     let none : bad_kind_of params_keys (texts_of (take i words)) (string_bytes (get_or words i word)) ≡ None =
     ap (bad_kind_of params_keys (texts_of (take i words))) (sym text) ∙ sym c.in_default.ensures.bad in
     record {
-      none = c.loop-i.invariant.none ∙ later_step string_bytes params_keys words i word c.loop-i-test.true none;
+      none = c.loop-i.invariant.none
+          ∙ later_step string_bytes params_keys words i word c.loop-i-test.true none;
       left = omega (arith, left_step string_bytes params_keys words i word c.loop-i-test.true none);
-      set = c.in_default.ensures.set ∙ ap (λ (t : List ℕ). params_after t c.loop-i.raw) text ∙ ap (params_after (string_bytes (get_or words i word))) c.loop-i.invariant.set
+      set = c.in_default.ensures.set ∙ ap (λ (t : List ℕ). params_after t c.loop-i.raw) text
+          ∙ ap (params_after (string_bytes (get_or words i word))) c.loop-i.invariant.set
           ∙ sym (set_step string_bytes words i word c.loop-i-test.true none);
     }
