@@ -13,22 +13,6 @@ use Rattle.sd_base.specs.Keys.{Key, is_equals_sign, key_name_of, value_of, sets_
 abbrev pub is_named : List ℕ → Key → Bool
 is_named name key = bytes_eq key.name name
 
--- a key of another name
-pub other_name : (name : List ℕ) (key : Key) → name ≢ key.name → is_named name key ≡ false
-other_name name key other = elim (cases_Bool (is_named name key)) [
-  | inl here ↦ absurd (other (sym ((bytes_eq-Decides key.name name).0 here)))
-  | inr not ↦ not
-]
-
--- what is wrong with a word that is cut into a name and a value, from the key of this name
-pub bad_kind_at : (keys : List Key) (before : List (List ℕ)) (word name value : List ℕ) (key : Option Key)
-    → list_any is_equals_sign word ≡ true → name ≡ key_name_of word → value ≡ value_of word
-    → find (is_named name) keys ≡ key
-    → bad_kind_of_value key (list_any (sets_key name) before) value ≡ bad_kind_of keys before word
-bad_kind_at keys before word name value key cut left right known =
-    let known_left = rw left at known in
-    rw (cut, known_left, left, right) refl
-
 -- how many keys no word sets
 abbrev pub unset : List Key → List (List ℕ) → ℕ
 unset [] words = 0

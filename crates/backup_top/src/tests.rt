@@ -3,60 +3,22 @@ ghost use Rattle.std.specs.Prelude.{◌≡◌, Some};
 use crate::{
     BadKind, BadParams, BadWords, Outcome, note_of, plain_cuts, run, run_in_memory, status_of,
 };
-use candidate_map::PlainMap;
-use cut_walk::next_cut;
-use edge_traits::{EdgeFault, MemSink, MemSource, NoShelf, Sink, Source};
-use rabin_window::Tables;
+use edge_traits::{EdgeFault, MemSource, NoShelf, Sink};
 use sd_base::{MAX_INPUT, Params};
-use segment_scan::scan_range;
 use std::alloc::{AllocError, Global};
 use std::test::Fail;
 use std::thread::Threads;
-
-const ABC: &str = "0 3 ba7816bf8f01cfea414140de5dae2223b00361a396177a9cb410ff61f20015ad\n";
 
 // The words of a command line, which is written with a comma between each two: those after the path
 // of the store.
 pub(crate) fn words(alloc: Global, line: &str) -> Result<Vec<String>, AllocError> {
     let mut words = Vec::new(alloc);
-    for word in line.split(',').skip(1) {
+    let mut pieces = line.split(',');
+    pieces.next();
+    for word in pieces {
         words.push(String::from_str(alloc, word)?)?;
     }
     Ok(words)
-}
-
-// Runs a command line over these devices.
-fn run_line<H: Threads + Sync, K: Sink>(
-    rt: &H,
-    alloc: Global,
-    line: &str,
-    source: &mut MemSource,
-    sink: &mut K,
-) -> Result<Outcome, AllocError> {
-    let words = words(alloc, line)?;
-    let mut shelf = NoShelf::new();
-    let outcome = run(rt, alloc, words.as_slice(), source, sink, &mut shelf);
-    Ok(outcome)
-}
-
-// Runs a command line on an input in memory.
-fn run_line_in_memory<H: Threads + Sync>(
-    rt: &H,
-    alloc: Global,
-    line: &str,
-    input: Vec<u8>,
-) -> Result<(Outcome, MemSink), AllocError> {
-    let words = words(alloc, line)?;
-    Ok(run_in_memory(rt, alloc, words.as_slice(), input))
-}
-
-fn abc(alloc: Global) -> Result<MemSource, AllocError> {
-    let input = b"abc".to_vec(alloc)?;
-    Ok(MemSource::new(alloc, input, Vec::new(alloc), Vec::new(alloc)))
-}
-
-fn bad_words(kind: BadKind, place: u32) -> Outcome {
-    Outcome::BadWords(BadWords { kind, place })
 }
 
 // t^63 + 1: a byte 1 with 47 zeros before it has the fingerprint 1, and zeros have 0.
@@ -110,75 +72,64 @@ const PAST_MAXIMUM: &str = "\
 256 44 8c63f77e4a89707a17ed42972517700bc8913315f36c72fcfe833910a506cd8f
 ";
 
+const ONE_CHUNK: &str = "\
+0 300 cdbca213c17bb78ae98ce693377dbed4ec7497e301d2ddd504550b9cb5c99d4b
+";
+
+// A command line, the length of the input and the index of its byte 1, and how the run ends.
+const RUNS: [(&str, usize, usize, Outcome, &str); 11] = [
+    // An empty input has no chunk.
+    (FEW, 0, NONE, Outcome::Done, ""),
+    // With no candidate each chunk but the last has the maximum.
+    (FEW, 700, NONE, Outcome::Done, NO_MATCH),
+    // With a candidate at each position each chunk but the last has the minimum.
+    (ALL, 200, NONE, Outcome::Done, ALL_MATCH),
+    // A chunk ends right after the byte that makes a candidate.
+    (FEW, 300, 99, Outcome::Done, AT_100),
+    // A candidate below the minimum is passed over.
+    (FEW, 200, 62, Outcome::Done, BELOW_MINIMUM),
+    // One at the minimum is a cut.
+    (FEW, 200, 63, Outcome::Done, AT_MINIMUM),
+    // One after the maximum comes too late, and is below the minimum of the next chunk.
+    (FEW, 300, 256, Outcome::Done, PAST_MAXIMUM),
+    // Under the default parameters the minimum is 2048.
+    ("store,plan", 300, 99, Outcome::Done, ONE_CHUNK),
+    (
+        "store,plan",
+        MAX_INPUT as usize + 1,
+        NONE,
+        Outcome::InputTooLong,
+        "",
+    ),
+    (
+        "store,plan,bits=99,bits=13",
+        3,
+        NONE,
+        Outcome::BadWords(BadWords {
+            kind: BadKind::Twice,
+            place: 2,
+        }),
+        "",
+    ),
+    (
+        "store,plan,min=47,bits=0",
+        3,
+        NONE,
+        Outcome::BadParams(BadParams::Bits),
+        "",
+    ),
+];
+
 #[test]
-fn plan_prints_the_chunks_that_the_rule_cuts(rt: HostRuntime) -> Result<(), Fail> {
+fn a_run_prints_the_chunks_that_the_rule_cuts_or_refuses(rt: HostRuntime) -> Result<(), Fail> {
     let alloc = rt.alloc();
-    for (line, length, index, text) in [
-        // An empty input has no chunk.
-        (FEW, 0, NONE, ""),
-        // With no candidate each chunk but the last has the maximum.
-        (FEW, 700, NONE, NO_MATCH),
-        // With a candidate at each position each chunk but the last has the minimum.
-        (ALL, 200, NONE, ALL_MATCH),
-        // A chunk ends right after the byte that makes a candidate.
-        (FEW, 300, 99, AT_100),
-        // A candidate below the minimum is passed over.
-        (FEW, 200, 62, BELOW_MINIMUM),
-        // One at the minimum is a cut.
-        (FEW, 200, 63, AT_MINIMUM),
-        // One after the maximum comes too late, and is below the minimum of the next chunk.
-        (FEW, 300, 256, PAST_MAXIMUM),
-    ] {
+    for (line, length, index, ending, text) in RUNS {
+        let words = words(alloc, line)?;
         let input = zeros_with_one(alloc, length, index)?;
-        let (outcome, sink) = run_line_in_memory(&rt, alloc, line, input)?;
-        assert_eq!(rt; outcome, Outcome::Done);
+        let (outcome, sink) = run_in_memory(&rt, alloc, words.as_slice(), input);
+        assert_eq!(rt; outcome, ending);
         assert_eq!(rt; sink.written(), text.as_bytes());
     }
-    Ok(())
-}
-
-#[test]
-fn an_input_of_three_bytes_is_one_chunk(rt: HostRuntime) -> Result<(), Fail> {
-    let alloc = rt.alloc();
-    let input = b"abc".to_vec(alloc)?;
-    let (outcome, sink) = run_line_in_memory(&rt, alloc, "store,plan", input)?;
-    assert_eq!(rt; outcome, Outcome::Done);
-    assert_eq!(rt; sink.written(), ABC.as_bytes());
-    Ok(())
-}
-
-#[test]
-fn an_input_that_comes_byte_by_byte_has_the_same_chunks(rt: HostRuntime) -> Result<(), Fail> {
-    let alloc = rt.alloc();
-    let input = zeros_with_one(alloc, 300, 99)?;
-    let sizes = vec![in alloc; 1u32; 300]?;
-    let mut source = MemSource::new(alloc, input, sizes, Vec::new(alloc));
-    let mut sink = MemSink::new(alloc, Vec::new(alloc));
-    let outcome = run_line(&rt, alloc, FEW, &mut source, &mut sink)?;
-    assert_eq!(rt; outcome, Outcome::Done);
-    assert_eq!(rt; sink.written(), AT_100.as_bytes());
-    Ok(())
-}
-
-#[test]
-fn a_read_that_fails_in_mid_stream_writes_nothing(rt: HostRuntime) -> Result<(), Fail> {
-    let alloc = rt.alloc();
-    let input = b"abcd".to_vec(alloc)?;
-    let mut source = MemSource::new(alloc, input, vec![in alloc; 1, 1, 1]?, vec![in alloc; 2]?);
-    let mut sink = MemSink::new(alloc, Vec::new(alloc));
-    let outcome = run_line(&rt, alloc, "store,plan", &mut source, &mut sink)?;
-    assert_eq!(rt; outcome, Outcome::SourceFault);
-    assert!(rt; sink.written().is_empty());
-    Ok(())
-}
-
-#[test]
-fn an_input_of_one_byte_too_many_is_refused(rt: HostRuntime) -> Result<(), Fail> {
-    let alloc = rt.alloc();
-    let input = vec![in alloc; 0u8; MAX_INPUT as usize + 1]?;
-    let (outcome, sink) = run_line_in_memory(&rt, alloc, "store,plan", input)?;
-    assert_eq!(rt; outcome, Outcome::InputTooLong);
-    assert!(rt; sink.written().is_empty());
     Ok(())
 }
 
@@ -212,57 +163,48 @@ impl Sink for Slow {
     }
 }
 
+// Zeros with a byte 1, read byte by byte. The read of this number fails.
+fn byte_by_byte(alloc: Global, failing: u32) -> Result<MemSource, AllocError> {
+    let input = zeros_with_one(alloc, 300, 99)?;
+    let sizes = vec![in alloc; 1u32; 300]?;
+    let failing = vec![in alloc; failing]?;
+    Ok(MemSource::new(alloc, input, sizes, failing))
+}
+
+// Runs the words over these devices and no files.
+fn run_over<H: Threads + Sync, K: Sink>(
+    rt: &H,
+    alloc: Global,
+    words: &[String],
+    source: &mut MemSource,
+    sink: &mut K,
+) -> Outcome {
+    let mut shelf = NoShelf::new();
+    run(rt, alloc, words, source, sink, &mut shelf)
+}
+
 #[test]
-fn a_write_that_fails_writes_a_prefix_of_the_text(rt: HostRuntime) -> Result<(), Fail> {
+fn reads_and_writes_of_a_byte_change_nothing_until_one_fails(rt: HostRuntime) -> Result<(), Fail> {
     let alloc = rt.alloc();
-    for (room, prefix) in [(0, ""), (5, "0 3 b")] {
-        let mut source = abc(alloc)?;
+    let words = words(alloc, FEW)?;
+    for (failing, room, ending, text, faults) in [
+        (1000, 1000, Outcome::Done, AT_100, 0),
+        // A read that fails in mid-stream: nothing is written.
+        (2, 1000, Outcome::SourceFault, "", 0),
+        // A write that fails: a prefix of the text is written.
+        (1000, 0, Outcome::SinkFault, "", 1),
+        (1000, 5, Outcome::SinkFault, "0 100", 1),
+    ] {
+        let mut source = byte_by_byte(alloc, failing)?;
         let mut sink = Slow {
             bytes: Vec::new(alloc),
             room,
             faults: 0,
         };
-        let outcome = run_line(&rt, alloc, "store,plan", &mut source, &mut sink)?;
-        assert_eq!(rt; outcome, Outcome::SinkFault);
-        assert_eq!(rt; sink.bytes.as_slice(), prefix.as_bytes());
-        assert_eq!(rt; sink.faults, 1);
-    }
-    Ok(())
-}
-
-#[test]
-fn a_run_that_refuses_words_or_parameters_touches_no_device(rt: HostRuntime) -> Result<(), Fail> {
-    let alloc = rt.alloc();
-    for (line, refusal) in [
-        ("store", bad_words(BadKind::Missing, 0)),
-        ("store,init", bad_words(BadKind::Command, 0)),
-        ("store,plan,speed=3", bad_words(BadKind::Key, 1)),
-        ("store,plan,bits=13,bits=99", bad_words(BadKind::Twice, 2)),
-        ("store,plan,min=64,bits=07", bad_words(BadKind::Value, 2)),
-        (
-            "store,plan,bits=17,min=1",
-            Outcome::BadParams(BadParams::Bits),
-        ),
-        (
-            "store,plan,min=47,bits=0",
-            Outcome::BadParams(BadParams::Bits),
-        ),
-        (
-            "store,plan,polynomial=8000000000000000",
-            Outcome::BadParams(BadParams::Polynomial),
-        ),
-        (
-            "store,plan,min=4096,max=2048",
-            Outcome::BadParams(BadParams::Max),
-        ),
-    ] {
-        let mut source = abc(alloc)?;
-        let mut sink = MemSink::new(alloc, Vec::new(alloc));
-        let outcome = run_line(&rt, alloc, line, &mut source, &mut sink)?;
-        assert_eq!(rt; outcome, refusal);
-        assert!(rt; sink.written().is_empty());
-        let mut into = [0u8; 4];
-        assert_eq!(rt; source.read(&mut into)?, 3);
+        let outcome = run_over(&rt, alloc, words.as_slice(), &mut source, &mut sink);
+        assert_eq!(rt; outcome, ending);
+        assert_eq!(rt; sink.bytes.as_slice(), text.as_bytes());
+        assert_eq!(rt; sink.faults, faults);
     }
     Ok(())
 }
@@ -287,27 +229,7 @@ fn plain_division_cuts_where_the_rule_does(rt: HostRuntime) -> Result<(), Fail> 
     Ok(())
 }
 
-#[test]
-fn a_cut_waits_until_it_is_decided(rt: HostRuntime) -> Result<(), Fail> {
-    let alloc = rt.alloc();
-    let params = Params::new(SPARSE, 13, 1, 64, 256)?;
-    let input = zeros_with_one(alloc, 300, 99)?;
-    assert!(rt; input.len() == 300);
-    let mut map = PlainMap::new(alloc, 301)?;
-    scan_range(&Tables::new(&params), &params, &input, 0, 300, &mut map);
-    for (start, known, at_end, cut) in [
-        (0, 80, false, None),
-        (0, 100, false, Some(100)),
-        (100, 300, false, None),
-        (100, 300, true, Some(300)),
-    ] {
-        assert!(rt; start < known && known < map.bits());
-        assert_eq!(rt; next_cut(&map, &params, start, known, at_end), cut);
-    }
-    Ok(())
-}
-
-const NOTES: [(Outcome, u8, &str); 17] = [
+const NOTES: [(Outcome, u8, &str); 11] = [
     (Outcome::Done, 0, ""),
     (
         Outcome::BadWords(BadWords {
@@ -316,14 +238,6 @@ const NOTES: [(Outcome, u8, &str); 17] = [
         }),
         2,
         "backup: bad words at 0: missing\n",
-    ),
-    (
-        Outcome::BadWords(BadWords {
-            kind: BadKind::Command,
-            place: 0,
-        }),
-        2,
-        "backup: bad words at 0: command\n",
     ),
     (
         Outcome::BadWords(BadWords {
@@ -343,14 +257,6 @@ const NOTES: [(Outcome, u8, &str); 17] = [
     ),
     (
         Outcome::BadWords(BadWords {
-            kind: BadKind::Key,
-            place: 1,
-        }),
-        2,
-        "backup: bad words at 1: key\n",
-    ),
-    (
-        Outcome::BadWords(BadWords {
             kind: BadKind::Twice,
             place: 12,
         }),
@@ -358,32 +264,9 @@ const NOTES: [(Outcome, u8, &str); 17] = [
         "backup: bad words at 12: twice\n",
     ),
     (
-        Outcome::BadWords(BadWords {
-            kind: BadKind::Value,
-            place: 3,
-        }),
-        2,
-        "backup: bad words at 3: value\n",
-    ),
-    (
         Outcome::BadParams(BadParams::Polynomial),
         14,
         "backup: bad parameter: polynomial\n",
-    ),
-    (
-        Outcome::BadParams(BadParams::Bits),
-        14,
-        "backup: bad parameter: bits\n",
-    ),
-    (
-        Outcome::BadParams(BadParams::Target),
-        14,
-        "backup: bad parameter: target\n",
-    ),
-    (
-        Outcome::BadParams(BadParams::Min),
-        14,
-        "backup: bad parameter: min\n",
     ),
     (
         Outcome::BadParams(BadParams::Max),

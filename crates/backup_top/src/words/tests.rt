@@ -12,35 +12,17 @@ fn plan(raw: RawParams) -> Result<Command, BadWords> {
 }
 
 // Command lines, and the word of each that fails.
-const BAD: [(&str, BadKind, u32); 30] = [
+const BAD: [(&str, BadKind, u32); 12] = [
     ("store", BadKind::Missing, 0),
     ("store,Plan", BadKind::Command, 0),
-    ("store,--help", BadKind::Command, 0),
-    ("store,init", BadKind::Command, 0),
-    ("store,list", BadKind::Command, 0),
     ("store,,bits=13", BadKind::Command, 0),
-    ("store,plan,speed=3", BadKind::Key, 1),
-    ("store,plan,Bits=3", BadKind::Key, 1),
-    ("store,plan,bits", BadKind::Key, 1),
     ("store,plan,", BadKind::Key, 1),
-    ("store,plan,=3", BadKind::Key, 1),
     ("store,plan,bits=13,bits", BadKind::Key, 2),
-    ("store,plan,bits=13,speed=3,bits=13", BadKind::Key, 2),
-    ("store,plan,bits=13,bits=99", BadKind::Twice, 2),
     ("store,plan,bits=13,min=64,bits=", BadKind::Twice, 3),
-    ("store,plan,bits=", BadKind::Value, 1),
-    ("store,plan,bits=07", BadKind::Value, 1),
-    ("store,plan,bits=+7", BadKind::Value, 1),
-    ("store,plan,bits=-7", BadKind::Value, 1),
-    ("store,plan,bits=7 ", BadKind::Value, 1),
-    ("store,plan,bits=d", BadKind::Value, 1),
+    ("store,plan,min=64,bits=07", BadKind::Value, 2),
     ("store,plan,bits==3", BadKind::Value, 1),
-    ("store,plan,max=4294967296", BadKind::Value, 1),
     ("store,plan,max=18446744073709551616", BadKind::Value, 1),
-    ("store,plan,max=100000000000000000000", BadKind::Value, 1),
-    ("store,plan,polynomial=0x11", BadKind::Value, 1),
     ("store,plan,polynomial=1g", BadKind::Value, 1),
-    ("store,plan,polynomial=00000000000000011", BadKind::Value, 1),
     (
         "store,plan,max=256,min=64,target=1,bits=13,polynomial=3,bits=14",
         BadKind::Twice,
