@@ -6,4 +6,5 @@ use Rattle.backup_top.proofs.plan.text_of_input.Goals as goal
 pub text_of_plan-requires : goal.text_of_plan-requires
 text_of_plan-requires c =
     rw (c.deref.ensures.value, c.in_ok-cuts.ensures)
-    (RiseWithin-cuts_of (numbers_of c.args.params.now) c.args.input.now (omega arith) c.args.params.now.ordered)
+    (RiseWithin-cuts_of (numbers_of c.args.params.now) c.args.input.now (omega arith)
+    c.args.params.now.ordered)
