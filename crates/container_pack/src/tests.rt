@@ -1,4 +1,4 @@
-use crate::{Packer, Spot, places, read_chunk};
+use crate::{Packer, Spot, container_sizes, places, read_chunk};
 use edge_traits::{EdgeFault, File, MemShelf, Shelf, ShelfFail};
 use sd_base::{CONTAINER_HEADER, MAX_CHUNK_LEN, MAX_CONTAINER};
 use std::alloc::AllocError;
@@ -75,6 +75,24 @@ fn spots_follow_from_the_lengths(rt: HostRuntime) -> Result<(), Fail> {
 }
 
 #[test]
+fn sizes_follow_from_the_lengths(rt: HostRuntime) -> Result<(), Fail> {
+    let max = MAX_CHUNK_LEN;
+    let full = u64::from(MAX_CONTAINER);
+    let cases: [(&[u32], &[u64]); 4] = [
+        (&[], &[]),
+        (&[64, 8], &[80]),
+        (&[max, max, max, max], &[3_145_736, 1_048_584]),
+        // The fourth fills its container to the last byte.
+        (&[max, max, max, max - CONTAINER_HEADER, 1], &[full, 9]),
+    ];
+    for (lengths, want) in &cases {
+        let sizes = container_sizes(rt.alloc(), lengths)?;
+        assert_eq!(rt; sizes.as_slice(), *want);
+    }
+    Ok(())
+}
+
+#[test]
 fn a_chunk_is_read_back_from_its_spot(rt: HostRuntime) -> Result<(), Fail> {
     let mut shelf = shelf_with(&rt, &[])?;
     let mut packer = Packer::resume(0, &[]);
@@ -98,13 +116,20 @@ fn a_chunk_is_read_back_from_its_spot(rt: HostRuntime) -> Result<(), Fail> {
 
 #[test]
 fn a_read_that_fails_is_no_lack_of_memory(rt: HostRuntime) -> Result<(), Fail> {
-    let mut shelf = shelf_with(&rt, &[ShelfFail { call: 0, kept: 0 }])?;
+    let failing = [
+        ShelfFail { call: 0, kept: 0 },
+        ShelfFail { call: 2, kept: 0 },
+    ];
+    let mut shelf = shelf_with(&rt, &failing)?;
     shelf.put_file(FIRST, ONE_CHUNK)?;
     let read = read_chunk(rt.alloc(), &mut shelf, 0, spot(0, 8), 3);
     assert_eq!(rt; read.err(), Some(EdgeFault::Failed));
     assert_eq!(rt; shelf.file(FIRST), ONE_CHUNK);
     let read = read_chunk(rt.alloc(), &mut shelf, 0, spot(0, 8), 3)?;
     assert_eq!(rt; read.as_slice(), b"abc".as_slice());
+
+    // No other call is made.
+    assert_eq!(rt; shelf.len(FIRST).err(), Some(EdgeFault::Failed));
     Ok(())
 }
 
@@ -121,6 +146,8 @@ fn a_new_container_begins_with_its_header(rt: HostRuntime) -> Result<(), Fail> {
     assert_eq!(rt; shelf.file(file).len(), 8 + chunk.len() + 2);
     assert!(rt; shelf.file(file).starts_with(b"SSCP\0\0\0\x01\x07"));
     assert!(rt; shelf.file(file).ends_with(b"\x07ab"));
+    let read = read_chunk(rt.alloc(), &mut shelf, 3, spot(1, 8), MAX_CHUNK_LEN)?;
+    assert_eq!(rt; read.as_slice(), chunk.as_slice());
     Ok(())
 }
 
@@ -220,5 +247,10 @@ fn a_packer_goes_on_after_a_refused_append(rt: HostRuntime) -> Result<(), Fail> 
             assert_eq!(rt; shelf.file(other), TWO_CHUNKS);
         }
     }
+
+    // A new container takes a cut, its header and the chunk, and no other call.
+    let mut shelf = shelf_with(&rt, &[ShelfFail { call: 3, kept: 0 }])?;
+    assert_eq!(rt; append_again(&mut shelf), (None, Some(spot(0, 8))));
+    assert_eq!(rt; shelf.len(FIRST).err(), Some(EdgeFault::Failed));
     Ok(())
 }

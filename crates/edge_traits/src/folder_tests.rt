@@ -32,7 +32,8 @@ impl Syncs {
     }
 }
 
-/// The system's files, of which one sync fails.
+/// The system's files, of which one sync fails. A write takes one byte of its piece, and fails at
+/// an exclamation mark.
 #[derive(Drop)]
 struct Faulty<'a> {
     rt: HostRuntime,
@@ -53,7 +54,10 @@ impl Read for FaultyFile<'_> {
 
 impl Write for FaultyFile<'_> {
     fn write(&mut self, bytes: &[u8]) -> io::Result<usize> {
-        self.file.write(bytes)
+        if bytes.starts_with(b"!") {
+            return Err(ErrorKind::Other.into());
+        }
+        self.file.write(&bytes[..bytes.len().min(1)])
     }
 
     fn flush(&mut self) -> io::Result<()> {
@@ -183,6 +187,13 @@ fn another_shelf_reads_what_was_appended_and_cut(rt: HostRuntime) -> Result<(), 
         assert_eq!(rt; &into[..3], b"deg".as_slice(), "{path}");
         assert_eq!(rt; shelf.read_at(*file, 6, &mut into)?, 0, "{path}");
         assert_eq!(rt; shelf.read_at(*file, u64::MAX, &mut into)?, 0, "{path}");
+
+        // A file that is open for reading is appended to and cut.
+        shelf.append(*file, b"hi")?;
+        shelf.cut(*file, 7)?;
+        assert_eq!(rt; shelf.len(*file)?, 7, "{path}");
+        assert_eq!(rt; shelf.read_at(*file, 5, &mut into)?, 2, "{path}");
+        assert_eq!(rt; &into[..2], b"gh".as_slice(), "{path}");
     }
     Ok(())
 }
@@ -238,8 +249,46 @@ fn a_failed_flush_is_never_taken_for_done(rt: HostRuntime) -> Result<(), Fail> {
         for _ in 0..2 {
             assert_eq!(rt; shelf.flush(File::Book(0)).err(), Some(EdgeFault::Failed));
         }
+        assert_eq!(rt; shelf.flush(File::Head).err(), Some(EdgeFault::Failed));
         assert_eq!(rt; syncs.made.load(SeqCst), failing);
     }
+    Ok(())
+}
+
+#[test]
+fn what_changed_after_a_flush_is_flushed_again(rt: HostRuntime) -> Result<(), Fail> {
+    let syncs = Syncs::new(0);
+    fs::create_dir(&rt, "again")?;
+    let mut shelf = FolderShelf::new(Faulty { rt, syncs: &syncs }, rt.alloc(), "again")?;
+    // The syncs so far: a flush after a file was made is two, of the file and of the folder.
+    shelf.append(File::Head, b"ab")?;
+    shelf.flush(File::Head)?;
+    assert_eq!(rt; syncs.made.load(SeqCst), 2);
+    shelf.append(File::Head, b"c")?;
+    shelf.flush(File::Head)?;
+    assert_eq!(rt; syncs.made.load(SeqCst), 3);
+    shelf.cut(File::Head, 1)?;
+    shelf.flush(File::Head)?;
+    assert_eq!(rt; syncs.made.load(SeqCst), 4);
+    shelf.append(File::Book(0), b"d")?;
+    shelf.flush(File::Book(0))?;
+    assert_eq!(rt; syncs.made.load(SeqCst), 6);
+    Ok(())
+}
+
+#[test]
+fn a_failed_append_leaves_its_first_bytes(rt: HostRuntime) -> Result<(), Fail> {
+    let syncs = Syncs::new(0);
+    fs::create_dir(&rt, "short")?;
+    let mut shelf = FolderShelf::new(Faulty { rt, syncs: &syncs }, rt.alloc(), "short")?;
+    assert_eq!(rt;
+        shelf.append(File::Head, b"ab!c").err(),
+        Some(EdgeFault::Failed)
+    );
+    assert_eq!(rt; shelf.len(File::Head)?, 2);
+    shelf.append(File::Head, b"d")?;
+    assert_eq!(rt; shelf.len(File::Head)?, 3);
+    assert_eq!(rt; fs::read(&rt, "short/head")?.as_slice(), b"abd".as_slice());
     Ok(())
 }
 

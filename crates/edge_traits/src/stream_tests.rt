@@ -22,6 +22,10 @@ fn a_source_is_read_up_to_the_limit(rt: HostRuntime) -> Result<(), Fail> {
     assert_eq!(rt; whole.as_slice(), b"abc".as_slice());
     let too_long = read_all(rt.alloc(), &mut source_of(&rt, b"abcd")?, 3);
     assert_eq!(rt; too_long.err(), Some(ReadFault::InputTooLong));
+
+    // A limit takes no memory for bytes that do not come.
+    let whole = read_all(rt.alloc(), &mut source_of(&rt, b"abc")?, 1 << 28)?;
+    assert!(rt; whole.capacity() <= 1 << 16);
     Ok(())
 }
 

@@ -1,4 +1,4 @@
-use crate::tests::{Seen, flip, sealed, step_of};
+use crate::tests::{Seen, flip, sealed, step_of, written_again};
 use crate::{Book, BookFault, IngestRecord, NewChunk, NewChunks, Recipe, Record};
 use sd_base::{Damage, Name};
 use std::alloc::{AllocError, Global};
@@ -119,6 +119,9 @@ fn every_cut_and_every_changed_byte_is_damage(rt: HostRuntime) -> Result<(), Fai
     }
     assert_eq!(rt; replayed(alloc, &bytes, 3, 256), Ok(2));
     assert_eq!(rt; replayed(alloc, &bytes, 4, 256), bad_record(3));
+
+    // No memory is taken for records that are not there.
+    assert_eq!(rt; replayed(alloc, &bytes, u64::MAX, 256), bad_record(3));
     Ok(())
 }
 
@@ -245,7 +248,7 @@ fn empty_session(alloc: Global, session: u32) -> Result<Vec<u8>, AllocError> {
 
 // A session of 100,000 chunks of one byte each.
 #[test]
-fn a_session_of_100000_chunks_is_replayed(rt: HostRuntime) -> Result<(), Fail> {
+fn a_session_of_100000_chunks_is_replayed_and_written(rt: HostRuntime) -> Result<(), Fail> {
     let alloc = rt.alloc();
     let count: [u8; 4] = 100_000u32.to_be_bytes();
     let mut chunks = Vec::new(alloc);
@@ -262,5 +265,7 @@ fn a_session_of_100000_chunks_is_replayed(rt: HostRuntime) -> Result<(), Fail> {
     )?;
     assert_eq!(rt; replayed(alloc, &bytes, 1, 64), Ok(1));
     assert_eq!(rt; replayed(alloc, &bytes, 2, 64), bad_record(1));
+    let again = written_again(alloc, &bytes).ok_or("a record")?;
+    assert_eq!(rt; again.as_slice(), bytes.as_slice());
     Ok(())
 }

@@ -44,7 +44,7 @@ pub fn sealed(alloc: Global, kind: u8, parts: &[&[u8]]) -> Result<Vec<u8>, Alloc
 }
 
 // The spelling of the record that bytes begin with.
-fn written_again(alloc: Global, bytes: &[u8]) -> Option<Vec<u8>> {
+pub fn written_again(alloc: Global, bytes: &[u8]) -> Option<Vec<u8>> {
     match next_record(alloc, bytes) {
         Ok(Step::Whole(entry, _)) => encode_record(alloc, &entry).ok(),
         _ => None,
