@@ -3,7 +3,7 @@ ghost use Rattle.std.specs.Prelude.{◌≡◌, Some};
 use crate::{
     BadKind, BadParams, BadWords, Outcome, note_of, plain_cuts, run, run_in_memory, status_of,
 };
-use edge_traits::{EdgeFault, MemSource, NoShelf, Sink};
+use edge_traits::{EdgeFault, MemSink, MemSource, NoShelf, Sink, Source};
 use sd_base::{MAX_INPUT, Params};
 use std::alloc::{AllocError, Global};
 use std::test::Fail;
@@ -206,6 +206,21 @@ fn reads_and_writes_of_a_byte_change_nothing_until_one_fails(rt: HostRuntime) ->
         assert_eq!(rt; sink.bytes.as_slice(), text.as_bytes());
         assert_eq!(rt; sink.faults, faults);
     }
+    Ok(())
+}
+
+#[test]
+fn a_run_reads_to_the_end_and_writes_once(rt: HostRuntime) -> Result<(), Fail> {
+    let alloc = rt.alloc();
+    let words = words(alloc, "store,plan")?;
+    let input = zeros_with_one(alloc, 3, NONE)?;
+    let mut source = MemSource::new(alloc, input, Vec::new(alloc), vec![in alloc; 2u32]?);
+    let mut sink = MemSink::new(alloc, vec![in alloc; 1u32]?);
+    let outcome = run_over(&rt, alloc, words.as_slice(), &mut source, &mut sink);
+    assert_eq!(rt; outcome, Outcome::Done);
+    // Two reads and one write were made: the next of each is the one that is planned to fail.
+    assert_eq!(rt; source.read(&mut [0; 1]).err(), Some(EdgeFault::Failed));
+    assert_eq!(rt; sink.write(b"x").err(), Some(EdgeFault::Failed));
     Ok(())
 }
 
