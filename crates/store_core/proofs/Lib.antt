@@ -10,3 +10,23 @@ mod OpeningLemmas
 mod StoreLemmas
 -- opening has one verdict
 mod Verdicts
+-- what one more ingest, named by a recipe, does to a state and its book
+mod IngestLemmas
+-- an index of names, and one name more
+mod NameIndexLemmas
+-- a chunk that is offered to a store that stands for a state
+mod OfferLemmas
+-- what a commit leaves of a store that stands for a state
+mod CommitLemmas
+-- what a store keeps of its chunks in memory
+mod FieldLemmas
+-- the record of a session that is committed
+mod SessionLemmas
+-- a chunk of a store as it is read
+mod ReadLemmas
+-- the search for a chunk by its name
+mod FindLemmas
+-- the two ways in which a chunk is offered
+mod OfferSteps
+-- what is written of a session that is restored
+mod RestoreLemmas

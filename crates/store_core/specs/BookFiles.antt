@@ -5,7 +5,8 @@ use Rattle.sd_base.specs.declared.record.TheConstants.{AROUND_BODY, NUMBER_LEN}
 
 -- whether the bytes are fewer than the record has whose kind and length they begin with
 abbrev pub is_short : List ℕ → Bool
-is_short bytes = nat_lt (length bytes) (1 + NUMBER_LEN) || nat_lt (length bytes) (AROUND_BODY + stated_length bytes)
+is_short bytes =
+    nat_lt (length bytes) (1 + NUMBER_LEN) || nat_lt (length bytes) (AROUND_BODY + stated_length bytes)
 
 -- the bytes that the first n records take; a record that is not whole ends them
 unfoldable pub whole_len : ℕ → List ℕ → ℕ
@@ -17,4 +18,5 @@ whole_len (suc n) bytes =
 -- the length of the record whose kind and length these bytes begin with, if they are enough for
 -- that
 abbrev pub stated_record : List ℕ → Option ℕ
-stated_record bytes = if nat_lt (length bytes) (1 + NUMBER_LEN) then None else Some (AROUND_BODY + stated_length bytes)
+stated_record bytes =
+    if nat_lt (length bytes) (1 + NUMBER_LEN) then None else Some (AROUND_BODY + stated_length bytes)

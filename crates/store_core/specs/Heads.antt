@@ -21,4 +21,5 @@ AreNoSettings bytes = (raw : RawParams) → IsValid raw → bytes ≡ settings_o
 -- how opening may be refused
 abbrev pub OnlyOpens : {T : Type 0} → Result T StoreFault → Type 0
 OnlyOpens result =
-    (result ≡ Err NoStore) ⊎ ((damage : Damage) × (result ≡ Err (Damaged damage))) ⊎ (result ≡ Err ShelfFault) ⊎ (result ≡ Err OutOfMemory)
+    (result ≡ Err NoStore) ⊎ ((damage : Damage) × (result ≡ Err (Damaged damage))) ⊎ (result ≡ Err ShelfFault)
+    ⊎ (result ≡ Err OutOfMemory)

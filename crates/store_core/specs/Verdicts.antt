@@ -9,15 +9,20 @@ use Rattle.sd_base.specs.declared.file.File.{File}
 
 -- files open as one store
 abbrev pub OpenAsOne : Type 0
-OpenAsOne = (files : File → List ℕ) (first second : Opened) → OpenAs files first → OpenAs files second → first ≡ second
+OpenAsOne =
+    (files : File → List ℕ) (first second : Opened) → OpenAs files first → OpenAs files second → first ≡ second
 
 -- files have one first damage
 abbrev pub HaveOneDamage : Type 0
-HaveOneDamage = (files : File → List ℕ) (first second : Damage) → IsOpeningDamage files first → IsOpeningDamage files second → first ≡ second
+HaveOneDamage =
+    (files : File → List ℕ) (first second : Damage) →
+    IsOpeningDamage files first → IsOpeningDamage files second → first ≡ second
 
 -- files that open have no damage
 abbrev pub OpenUndamaged : Type 0
-OpenUndamaged = (files : File → List ℕ) (opened : Opened) (damage : Damage) → OpenAs files opened → IsOpeningDamage files damage → ⊥
+OpenUndamaged =
+    (files : File → List ℕ) (opened : Opened) (damage : Damage) →
+    OpenAs files opened → IsOpeningDamage files damage → ⊥
 
 -- files that hold no store do not open
 abbrev pub NoStoreIsNotOpened : Type 0
@@ -25,7 +30,8 @@ NoStoreIsNotOpened = (files : File → List ℕ) (opened : Opened) → HoldNoSto
 
 -- files that hold no store have no damage
 abbrev pub NoStoreIsUndamaged : Type 0
-NoStoreIsUndamaged = (files : File → List ℕ) (damage : Damage) → HoldNoStore files → IsOpeningDamage files damage → ⊥
+NoStoreIsUndamaged =
+    (files : File → List ℕ) (damage : Damage) → HoldNoStore files → IsOpeningDamage files damage → ⊥
 
 -- files that hold a lawful state have no damage
 abbrev pub HeldStatesAreUndamaged : Type 0

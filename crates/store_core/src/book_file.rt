@@ -1,12 +1,12 @@
 //! The book of a store, read from its file.
-ghost use Rattle.std.specs.Prelude.{◌≡◌, ◌+◌, ◌≤◌, ℕ, List, length, take, drop, IfOk, IfSome, OnErr, IsErrOf};
-ghost use Rattle.edge_traits.specs.Faults.{Rose};
-ghost use Rattle.edge_traits.specs.Shelf.{content, SameFiles, SameLoose};
-ghost use Rattle.sd_base.specs.Books.{BookState, IsBookDamage, IsReplay};
+ghost use Rattle.std.specs.Prelude.{◌≡◌, ◌+◌, ℕ, List, length, take, drop, IfOk, IfSome, OnErr, IsErrOf};
+ghost use Rattle.edge_traits.specs.Shelf.{content};
+ghost use Rattle.sd_base.specs.Books.{IsBookDamage, IsReplay};
 ghost use Rattle.sd_base.specs.declared.damage.Damage.{Damage};
 ghost use Rattle.sd_base.specs.declared.file.File.TheVariants.{Book as BookFile, Seal};
 ghost use Rattle.store_core.specs.BookFiles.{stated_record, whole_len};
 ghost use Rattle.store_core.specs.Heads.{OnlyOpens};
+ghost use Rattle.store_core.specs.Shelves.{OnlyReads};
 
 use crate::StoreFault;
 use edge_traits::{EdgeFault, File, Shelf};
@@ -29,20 +29,13 @@ pub(crate) fn read_book<F: Shelf>(
     ensures committed { IfOk result (λ book. IfSome (F.files shelf.old) (λ files.
         IsReplay max (files (BookFile generation)) (length (files (Seal generation))) book)) }
     ensures replayed { IfOk result (λ book. (bytes : List ℕ) × (n : ℕ) × IsReplay max bytes n book) }
-    ensures damaged { (damage : Damage) → result ≡ Err (StoreFault.Damaged damage) → IfSome (F.files shelf.old) (λ files.
-        IsBookDamage max (files (BookFile generation)) (length (files (Seal generation))) damage) }
+    ensures damaged { (damage : Damage) → result ≡ Err (StoreFault.Damaged damage)
+        → IfSome (F.files shelf.old) (λ files. IsBookDamage max (files (BookFile generation)) (length (files (Seal generation))) damage) }
     ensures refused { OnErr result (OnlyOpens result) }
     ensures no_store { result ≡ Err StoreFault.NoStore → ⊥ }
 
-    ensures same_files { SameFiles (F.files shelf.old) (F.files shelf.new) }
-    ensures same_loose { SameLoose (F.loose shelf.old) (F.loose shelf.new) }
-
-    ensures failed { result ≡ Err StoreFault.ShelfFault → Rose (F.faults shelf.old) (F.faults shelf.new) }
-    ensures never_falls { F.faults shelf.old ≤ F.faults shelf.new }
-
-    ensures faultless_serves { F.faultless shelf.old → result ≡ Err StoreFault.ShelfFault → ⊥ }
-    ensures faultless_counts_none { F.faultless shelf.old → F.faults shelf.new ≡ F.faults shelf.old }
-    ensures stays_faultless { F.faultless shelf.old → F.faultless shelf.new }
+    ensures reads { OnlyReads (result ≡ Err StoreFault.ShelfFault) F.files F.loose F.faults F.faultless
+        shelf.old shelf.new }
 {
     let records = shelf.len(File::Seal(generation))?;
     let bytes = read_records(alloc, shelf, File::Book(generation), records)?;
@@ -59,15 +52,8 @@ fn read_records<F: Shelf>(
     ensures front { IfOk result (λ read. IfSome (content (F.files shelf.old) file) (λ bytes.
         read.items ≡ take (whole_len records bytes) bytes)) }
 
-    ensures same_files { SameFiles (F.files shelf.old) (F.files shelf.new) }
-    ensures same_loose { SameLoose (F.loose shelf.old) (F.loose shelf.new) }
-
-    ensures failed { IsErrOf result EdgeFault.Failed → Rose (F.faults shelf.old) (F.faults shelf.new) }
-    ensures never_falls { F.faults shelf.old ≤ F.faults shelf.new }
-
-    ensures faultless_serves { F.faultless shelf.old → IsErrOf result EdgeFault.Failed → ⊥ }
-    ensures faultless_counts_none { F.faultless shelf.old → F.faults shelf.new ≡ F.faults shelf.old }
-    ensures stays_faultless { F.faultless shelf.old → F.faultless shelf.new }
+    ensures reads { OnlyReads (IsErrOf result EdgeFault.Failed) F.files F.loose F.faults F.faultless
+        shelf.old shelf.new }
 {
     let size = records_len(shelf, file, records)?;
     let mut bytes = vec![in alloc; 0; size as usize]?;
@@ -79,17 +65,11 @@ fn read_records<F: Shelf>(
 // The bytes that the first records of a file take, by the lengths that they state. A record that is
 // not whole ends them.
 fn records_len<F: Shelf>(shelf: &mut F, file: File, records: u64) -> Result<u64, EdgeFault>
-    ensures whole { IfOk result (λ size. IfSome (content (F.files shelf.old) file) (λ bytes. size ≡ whole_len records bytes)) }
+    ensures whole { IfOk result (λ size. IfSome (content (F.files shelf.old) file) (λ bytes.
+        size ≡ whole_len records bytes)) }
 
-    ensures same_files { SameFiles (F.files shelf.old) (F.files shelf.new) }
-    ensures same_loose { SameLoose (F.loose shelf.old) (F.loose shelf.new) }
-
-    ensures failed { IsErrOf result EdgeFault.Failed → Rose (F.faults shelf.old) (F.faults shelf.new) }
-    ensures never_falls { F.faults shelf.old ≤ F.faults shelf.new }
-
-    ensures faultless_serves { F.faultless shelf.old → IsErrOf result EdgeFault.Failed → ⊥ }
-    ensures faultless_counts_none { F.faultless shelf.old → F.faults shelf.new ≡ F.faults shelf.old }
-    ensures stays_faultless { F.faultless shelf.old → F.faultless shelf.new }
+    ensures reads { OnlyReads (IsErrOf result EdgeFault.Failed) F.files F.loose F.faults F.faultless
+        shelf.old shelf.new }
 {
     let size = shelf.len(file)?;
     let mut end = 0;
@@ -108,15 +88,8 @@ fn stated_len<F: Shelf>(shelf: &mut F, file: File, at: u64) -> Result<Option<u64
     ensures stated { IfOk result (λ stated. IfSome (content (F.files shelf.old) file) (λ bytes.
         stated ≡ stated_record (drop at bytes))) }
 
-    ensures same_files { SameFiles (F.files shelf.old) (F.files shelf.new) }
-    ensures same_loose { SameLoose (F.loose shelf.old) (F.loose shelf.new) }
-
-    ensures failed { IsErrOf result EdgeFault.Failed → Rose (F.faults shelf.old) (F.faults shelf.new) }
-    ensures never_falls { F.faults shelf.old ≤ F.faults shelf.new }
-
-    ensures faultless_serves { F.faultless shelf.old → IsErrOf result EdgeFault.Failed → ⊥ }
-    ensures faultless_counts_none { F.faultless shelf.old → F.faults shelf.new ≡ F.faults shelf.old }
-    ensures stays_faultless { F.faultless shelf.old → F.faultless shelf.new }
+    ensures reads { OnlyReads (IsErrOf result EdgeFault.Failed) F.files F.loose F.faults F.faultless
+        shelf.old shelf.new }
 {
     let mut bytes = [0; RECORD_HEAD];
     if shelf.read_at(file, at, &mut bytes)? < RECORD_HEAD {

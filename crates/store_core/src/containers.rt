@@ -1,12 +1,11 @@
 //! The containers of a store against the chunks of its book.
 ghost use Rattle.std.specs.Prelude.{◌≡◌, ◌≤◌, ◌<◌, ℕ, length, slice_index_or, IfSome, OnOk, OnErr};
-ghost use Rattle.edge_traits.specs.Faults.{Rose};
-ghost use Rattle.edge_traits.specs.Shelf.{SameFiles, SameLoose};
 ghost use Rattle.sd_base.specs.Packing.{container_sizes};
 ghost use Rattle.sd_base.specs.declared.damage.Damage.{Damage};
 ghost use Rattle.sd_base.specs.declared.file.File.TheVariants.{Container};
 ghost use Rattle.sd_base.specs.declared.limits.TheConstants.{MAX_CHUNKS};
 ghost use Rattle.store_core.specs.Containers.{IsFirstShort, OnlyFinds};
+ghost use Rattle.store_core.specs.Shelves.{OnlyReads};
 
 use crate::StoreFault;
 use container_pack::container_sizes;
@@ -28,18 +27,12 @@ pub(crate) fn check_containers<F: Shelf>(
         (k : ℕ) → k < length (container_sizes lengths.now)
         → slice_index_or (container_sizes lengths.now) k 0 ≤ length (files (Container generation k)))) }
     ensures damaged { (damage : Damage) → result ≡ Err (StoreFault.Damaged damage)
-        → IfSome (F.files shelf.old) (λ files. IsFirstShort files generation (container_sizes lengths.now) damage) }
+        → IfSome (F.files shelf.old) (λ files.
+        IsFirstShort files generation (container_sizes lengths.now) damage) }
     ensures refused { OnErr result (OnlyFinds result) }
 
-    ensures same_files { SameFiles (F.files shelf.old) (F.files shelf.new) }
-    ensures same_loose { SameLoose (F.loose shelf.old) (F.loose shelf.new) }
-
-    ensures failed { result ≡ Err StoreFault.ShelfFault → Rose (F.faults shelf.old) (F.faults shelf.new) }
-    ensures never_falls { F.faults shelf.old ≤ F.faults shelf.new }
-
-    ensures faultless_serves { F.faultless shelf.old → result ≡ Err StoreFault.ShelfFault → ⊥ }
-    ensures faultless_counts_none { F.faultless shelf.old → F.faults shelf.new ≡ F.faults shelf.old }
-    ensures stays_faultless { F.faultless shelf.old → F.faultless shelf.new }
+    ensures reads { OnlyReads (result ≡ Err StoreFault.ShelfFault) F.files F.loose F.faults F.faultless
+        shelf.old shelf.new }
 {
     let sizes = container_sizes(alloc, lengths)?;
     for (number, needed) in sizes.iter().enumerate() {

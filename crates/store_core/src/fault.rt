@@ -1,10 +1,11 @@
 ghost use Rattle.std.specs.Prelude.{◌≡◌};
-ghost use Rattle.store_core.specs.Faults.{store_fault_of, store_fault_of_book};
+ghost use Rattle.store_core.specs.Faults.{stays_sound, store_fault_of, store_fault_of_book};
 ghost use Rattle.store_core.specs.declared.fault.StoreFault.TheVariants.{OutOfMemory as out_of_memory};
 
 use edge_traits::EdgeFault;
 use sd_base::{Damage, OutOfMemory};
 use session_book::BookFault;
+use std::alloc::{AllocError, AllocFailed};
 
 /// Why a call of the store was refused. What it left is said at the call.
 #[derive(Clone, Copy, Debug, PartialEq, Eq)]
@@ -53,6 +54,22 @@ impl From<OutOfMemory> for StoreFault {
     }
 }
 
+impl From<AllocError> for StoreFault {
+    ghost from_gives = { λ _ answer. answer ≡ out_of_memory };
+
+    fn from(_: AllocError) -> Self {
+        StoreFault::OutOfMemory
+    }
+}
+
+impl<T: Drop> From<AllocFailed<T>> for StoreFault {
+    ghost from_gives = { λ _ answer. answer ≡ out_of_memory };
+
+    fn from(_: AllocFailed<T>) -> Self {
+        StoreFault::OutOfMemory
+    }
+}
+
 impl From<BookFault> for StoreFault {
     ghost from_gives = { λ fault answer. answer ≡ store_fault_of_book fault };
 
@@ -62,4 +79,14 @@ impl From<BookFault> for StoreFault {
             BookFault::OutOfMemory => StoreFault::OutOfMemory,
         }
     }
+}
+
+/// Whether a store may be used after a call that returned this.
+pub(crate) fn stays_sound<T>(outcome: &Result<T, StoreFault>) -> bool
+    ensures { result ≡ stays_sound outcome.now }
+{
+    !matches!(
+        outcome,
+        Err(StoreFault::Damaged(_) | StoreFault::ShelfFault | StoreFault::OutOfMemory)
+    )
 }

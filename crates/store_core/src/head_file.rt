@@ -1,7 +1,6 @@
 //! The head of a store: its settings and its generation.
-ghost use Rattle.std.specs.Prelude.{◌≡◌, ◌≤◌, List, ℕ, length, take, MatchOption, IfOk, IfSome, OnErr, IsErrOf};
-ghost use Rattle.edge_traits.specs.Faults.{Rose};
-ghost use Rattle.edge_traits.specs.Shelf.{content, SameFiles, SameLoose};
+ghost use Rattle.std.specs.Prelude.{◌≡◌, ◌≤◌, length, take, MatchOption, IfOk, IfSome, OnErr, IsErrOf};
+ghost use Rattle.edge_traits.specs.Shelf.{content};
 ghost use Rattle.sd_base.specs.Opening.{HasHead, IsHeadDamage};
 ghost use Rattle.sd_base.specs.Params.{numbers_of};
 ghost use Rattle.sd_base.specs.Settings.{settings_of};
@@ -10,6 +9,7 @@ ghost use Rattle.sd_base.specs.declared.damage.Damage.{Damage};
 ghost use Rattle.sd_base.specs.declared.file.File.TheVariants.{Head};
 ghost use Rattle.sd_base.specs.declared.limits.TheConstants.{SETTINGS_LEN};
 ghost use Rattle.store_core.specs.Heads.{AreNoSettings, head_state, OnlyOpens};
+ghost use Rattle.store_core.specs.Shelves.{OnlyReads};
 
 use crate::StoreFault;
 use crate::settings::{SETTINGS_SIZE, read_settings};
@@ -25,21 +25,15 @@ pub(crate) struct StoreHead {
 
 /// Reads the head. What it finds is the first part of the verdict of opening.
 pub(crate) fn read_head<F: Shelf>(shelf: &mut F) -> Result<StoreHead, StoreFault>
-    ensures head { IfOk result (λ head. IfSome (F.files shelf.old) (λ files. HasHead files (head_state head))) }
+    ensures head { IfOk result (λ head.
+        IfSome (F.files shelf.old) (λ files. HasHead files (head_state head))) }
     ensures no_store { result ≡ Err StoreFault.NoStore → IfSome (F.files shelf.old) HoldNoStore }
     ensures damaged { (damage : Damage) → result ≡ Err (StoreFault.Damaged damage)
         → IfSome (F.files shelf.old) (λ files. IsHeadDamage files damage) }
     ensures refused { OnErr result (OnlyOpens result) }
 
-    ensures same_files { SameFiles (F.files shelf.old) (F.files shelf.new) }
-    ensures same_loose { SameLoose (F.loose shelf.old) (F.loose shelf.new) }
-
-    ensures failed { result ≡ Err StoreFault.ShelfFault → Rose (F.faults shelf.old) (F.faults shelf.new) }
-    ensures never_falls { F.faults shelf.old ≤ F.faults shelf.new }
-
-    ensures faultless_serves { F.faultless shelf.old → result ≡ Err StoreFault.ShelfFault → ⊥ }
-    ensures faultless_counts_none { F.faultless shelf.old → F.faults shelf.new ≡ F.faults shelf.old }
-    ensures stays_faultless { F.faultless shelf.old → F.faultless shelf.new }
+    ensures reads { OnlyReads (result ≡ Err StoreFault.ShelfFault) F.files F.loose F.faults F.faultless
+        shelf.old shelf.new }
 {
     let size = shelf.len(File::Head)?;
     if size < u64::from(OPEN_HEAD_LEN) {
@@ -61,15 +55,8 @@ fn read_params<F: Shelf>(shelf: &mut F) -> Result<Option<Params>, EdgeFault>
         SETTINGS_LEN ≤ length bytes → MatchOption params (AreNoSettings (take SETTINGS_LEN bytes))
         (λ params. take SETTINGS_LEN bytes ≡ settings_of (numbers_of params)))) }
 
-    ensures same_files { SameFiles (F.files shelf.old) (F.files shelf.new) }
-    ensures same_loose { SameLoose (F.loose shelf.old) (F.loose shelf.new) }
-
-    ensures failed { IsErrOf result EdgeFault.Failed → Rose (F.faults shelf.old) (F.faults shelf.new) }
-    ensures never_falls { F.faults shelf.old ≤ F.faults shelf.new }
-
-    ensures faultless_serves { F.faultless shelf.old → IsErrOf result EdgeFault.Failed → ⊥ }
-    ensures faultless_counts_none { F.faultless shelf.old → F.faults shelf.new ≡ F.faults shelf.old }
-    ensures stays_faultless { F.faultless shelf.old → F.faultless shelf.new }
+    ensures reads { OnlyReads (IsErrOf result EdgeFault.Failed) F.files F.loose F.faults F.faultless
+        shelf.old shelf.new }
 {
     let mut settings = [0; SETTINGS_SIZE];
     let count = shelf.read_at(File::Head, 0, &mut settings)?;

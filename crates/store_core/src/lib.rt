@@ -8,10 +8,13 @@
 #![tactic(auto)]
 
 mod book_file;
+mod chunk_list;
+mod commit_files;
 mod containers;
 mod fault;
 mod head_file;
 mod laws;
+mod name_index;
 mod new_store;
 mod settings;
 mod store;

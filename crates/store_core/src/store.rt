@@ -1,44 +1,73 @@
 //! A store as one value.
-ghost use Rattle.std.specs.Prelude.{◌≡◌, ◌≤◌, IfOk, IfSome, OnErr};
-ghost use Rattle.edge_traits.specs.Faults.{Rose};
-ghost use Rattle.edge_traits.specs.Shelf.{SameFiles, SameLoose};
+ghost use Rattle.std.specs.Prelude.{◌≡◌, ◌<◌, ◌≤◌, [], length, true, IfOk, IfSome, OnErr, IsErrOf};
+ghost use Rattle.std.specs.List.{All};
 ghost use Rattle.sd_base.specs.Opening.{IsOpeningDamage, OpenAs, chunk_lengths};
 ghost use Rattle.sd_base.specs.Params.{numbers_of};
-ghost use Rattle.sd_base.specs.Stores.{HoldNoStore};
+ghost use Rattle.sd_base.specs.States.{IsLawful, State};
+ghost use Rattle.sd_base.specs.Stores.{HoldNoStore, HoldState};
 ghost use Rattle.sd_base.specs.declared.damage.Damage.{Damage};
-ghost use Rattle.store_core.specs.Heads.{OnlyOpens};
+ghost use Rattle.sd_base.specs.declared.limits.TheConstants.{MAX_CHUNK_LEN, MAX_CHUNKS};
+ghost use Rattle.store_core.specs.Heads.{OnlyOpens, head_state};
+ghost use Rattle.store_core.specs.Shelves.{OnlyReads};
+ghost use Rattle.store_core.specs.StoreStates.{StandsFor, chunk_as_read, chunks_of_store, kept_chunk};
+
+mod commit;
+mod offer;
+mod restore;
 
 use crate::StoreFault;
 use crate::book_file::read_book;
+use crate::chunk_list::chunk_of;
 use crate::containers::check_containers;
-use crate::head_file::read_head;
+use crate::head_file::{StoreHead, read_head};
+use crate::name_index::NameIndex;
 use chunk_names::Namer;
-use edge_traits::Shelf;
-use sd_base::{OutOfMemory, Params};
+use container_pack::{Packer, Spot, places, read_chunk};
+use edge_traits::{EdgeFault, Shelf};
+use sd_base::{NewChunk, OutOfMemory, Params};
 use session_book::Book;
 use std::alloc::Global;
 use std::marker::Model;
 
-/// A store that was opened: its parameters, the generation of its files and the book of its
-/// committed records, with the namer of its chunks. Contracts see what it opened as.
+/// A store that was opened: its parameters, the generation of its files, the book of its committed
+/// records, and the chunks that were offered since the last commit.
 #[derive(Drop)]
 pub struct Store<N: Namer> {
+    alloc: Global,
     namer: N,
     params: Params,
     generation: u32,
     book: Book,
+    /// The chunks that were offered since the last commit.
+    offered: Vec<NewChunk>,
+    /// Where the chunks lie, those offered too.
+    spots: Vec<Spot>,
+    packer: Packer,
+    /// The names of chunks. It is made when the first chunk is offered.
+    index: NameIndex,
+    is_sound: bool,
 }
 
 impl<N: Namer> Model for Store<N> {
-    ghost use Rattle.sd_base.specs.Opening.{Opened};
+    ghost use Rattle.std.specs.Prelude.{◌≡◌, ◌++◌};
+    ghost use Rattle.sd_base.specs.Books.{chunks_in};
     ghost use Rattle.sd_base.specs.Params.{numbers_of};
+    ghost use Rattle.store_core.specs.StoreFields.{ArePlaced};
+    ghost use Rattle.store_core.specs.StoreStates.{StoreState};
 
-    ghost Value = { Opened };
+    ghost Value = { StoreState };
 
     ghost view = { λ store. record {
-      head = record { params = numbers_of store.params; generation = store.generation };
-      book = store.book;
+      opened = record {
+        head = record { params = numbers_of store.params; generation = store.generation };
+        book = store.book;
+      };
+      offered = store.offered.items;
+      sound = store.is_sound;
     } };
+
+    ghost invariant = { λ store. (store.book.max ≡ store.params.max)
+        × ArePlaced (chunks_in store.book.sessions ++ store.offered.items) store.generation store.spots.items store.packer store.index };
 }
 
 impl<N: Namer> Store<N> {
@@ -47,54 +76,85 @@ impl<N: Namer> Store<N> {
     /// the head, the records, the recipes and the sizes of the containers, in this order; otherwise
     /// the store. `ShelfFault` is returned only if the shelf's count of faults rose.
     pub fn open<F: Shelf>(alloc: Global, shelf: &mut F, namer: N) -> Result<Store<N>, StoreFault>
-        ensures opened { IfOk result (λ store. IfSome (F.files shelf.old) (λ files. OpenAs files store)) }
+        ensures opened { IfOk result (λ store. IfSome (F.files shelf.old) (λ files. OpenAs files store.opened)) }
         ensures no_store { result ≡ Err StoreFault.NoStore → IfSome (F.files shelf.old) HoldNoStore }
         ensures damaged { (damage : Damage) → result ≡ Err (StoreFault.Damaged damage)
             → IfSome (F.files shelf.old) (λ files. IsOpeningDamage files damage) }
         ensures refused { OnErr result (OnlyOpens result) }
+        ensures fresh { IfOk result (λ store. (store.offered ≡ []) × (store.sound ≡ true)) }
 
-        ensures same_files { SameFiles (F.files shelf.old) (F.files shelf.new) }
-        ensures same_loose { SameLoose (F.loose shelf.old) (F.loose shelf.new) }
+        // If the files hold a state, the store stands for it, with nothing offered.
+        ensures stands { (state : State) → IfSome (F.files shelf.old) (λ before. IsLawful state
+            → HoldState N.name_of before state → IfOk result (λ store. IfSome (F.files shelf.new) (λ after.
+            StandsFor N.name_of store after state []))) }
 
-        ensures failed { result ≡ Err StoreFault.ShelfFault → Rose (F.faults shelf.old) (F.faults shelf.new) }
-        ensures never_falls { F.faults shelf.old ≤ F.faults shelf.new }
-
-        ensures faultless_serves { F.faultless shelf.old → result ≡ Err StoreFault.ShelfFault → ⊥ }
-        ensures faultless_counts_none { F.faultless shelf.old → F.faults shelf.new ≡ F.faults shelf.old }
-        ensures stays_faultless { F.faultless shelf.old → F.faultless shelf.new }
+        ensures reads { OnlyReads (result ≡ Err StoreFault.ShelfFault) F.files F.loose F.faults F.faultless
+            shelf.old shelf.new }
     {
         let head = read_head(shelf)?;
-        let (params, generation) = (head.params, head.generation);
-        let book = read_book(alloc, shelf, generation, params.max)?;
+        let generation = head.generation;
+        let book = read_book(alloc, shelf, generation, head.params.max)?;
         let lengths = lengths_of(alloc, &book)?;
         check_containers(alloc, shelf, generation, &lengths)?;
-        Ok(Store {
-            namer,
-            params,
-            generation,
-            book,
-        })
+        Ok(opened_store(alloc, namer, head, book, &lengths)?)
     }
 
     /// The parameters of cutting.
     pub fn params(&self) -> &Params
-        ensures params { numbers_of result.now ≡ self.now.head.params }
+        ensures params { numbers_of result.now ≡ self.now.opened.head.params }
     {
         &self.params
     }
 
     /// The generation of the files.
     pub fn generation(&self) -> u32
-        ensures generation { result ≡ self.now.head.generation }
+        ensures generation { result ≡ self.now.opened.head.generation }
     {
         self.generation
     }
 
     /// The book of the committed records.
     pub fn book(&self) -> &Book
-        ensures book { result.now ≡ self.now.book }
+        ensures book { result.now ≡ self.now.opened.book }
     {
         &self.book
+    }
+
+    /// Whether the store may be used: true until a call of `offer` or `commit` returns `Damaged`,
+    /// `ShelfFault` or `OutOfMemory`.
+    pub fn is_sound(&self) -> bool
+        ensures sound { result ≡ self.now.sound }
+    {
+        self.is_sound
+    }
+
+    // The number of chunks, those offered too.
+    fn count(&self) -> u32
+        ensures count { result ≡ length (chunks_of_store self.now) }
+        ensures limit { result ≤ MAX_CHUNKS }
+    {
+        (self.book.chunks().len() + self.offered.len()) as u32
+    }
+
+    // The bytes of a chunk, as the shelf has them.
+    fn read<F: Shelf>(&self, shelf: &mut F, number: u32) -> Result<Vec<u8>, EdgeFault>
+        requires within { number < length (chunks_of_store self.now) }
+        ensures read { IfOk result (λ read. IfSome (F.files shelf.old) (λ files.
+            read.items ≡ chunk_as_read files self.now number)) }
+        ensures reads { OnlyReads (IsErrOf result EdgeFault.Failed) F.files F.loose F.faults F.faultless
+            shelf.old shelf.new }
+    {
+        let spot = self.spots[number as usize];
+        let length = self.chunk(number).length;
+        read_chunk(self.alloc, shelf, self.generation, spot, length)
+    }
+
+    // A chunk by its length and name.
+    fn chunk(&self, number: u32) -> NewChunk
+        requires within { number < length (chunks_of_store self.now) }
+        ensures chunk { result ≡ kept_chunk self.now number }
+    {
+        chunk_of(self.book.chunks(), &self.offered, number)
     }
 }
 
@@ -108,4 +168,38 @@ fn lengths_of(alloc: Global, book: &Book) -> Result<Vec<u32>, OutOfMemory>
         lengths.push(chunk.length)?;
     }
     Ok(lengths)
+}
+
+// The store of a head and a book, with no chunk offered.
+fn opened_store<N: Namer>(
+    alloc: Global,
+    namer: N,
+    head: StoreHead,
+    book: Book,
+    lengths: &[u32],
+) -> Result<Store<N>, OutOfMemory>
+    requires max { book.max ≡ head.params.max }
+    requires lengths { lengths.now ≡ chunk_lengths book }
+    requires none_empty { All (λ n. 1 ≤ n) lengths.now }
+    requires bounded { All (λ n. n ≤ MAX_CHUNK_LEN) lengths.now }
+
+    ensures opened { IfOk result (λ store. store ≡ record {
+      opened = record { head = head_state head; book = book };
+      offered = [];
+      sound = true;
+    }) }
+{
+    let spots = places(alloc, lengths)?;
+    Ok(Store {
+        alloc,
+        namer,
+        params: head.params,
+        generation: head.generation,
+        book,
+        offered: Vec::new(alloc),
+        spots,
+        packer: Packer::resume(head.generation, lengths),
+        index: NameIndex::new(alloc),
+        is_sound: true,
+    })
 }

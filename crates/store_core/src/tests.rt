@@ -1,6 +1,6 @@
 use crate::{Store, StoreFault, init, settings_of};
 use chunk_names::Sha256Namer;
-use edge_traits::{File, MemShelf, Shelf, ShelfFail};
+use edge_traits::{EdgeFault, File, MemShelf, Shelf, ShelfFail};
 use sd_base::{Damage, IngestRecord, Name, NewChunk, Params, Record};
 use session_book::encode_record;
 use std::test::Fail;
@@ -81,6 +81,21 @@ fn ingest(rt: &HostRuntime, entry: u32) -> Result<Vec<u8>, Fail> {
     )
 }
 
+/// Puts the files of a store of generation 0 with one container.
+fn put_store(
+    shelf: &mut MemShelf,
+    head: &[u8],
+    seal: &[u8],
+    book: &[u8],
+    container: &[u8],
+) -> Result<(), Fail> {
+    shelf.put_file(File::Head, head)?;
+    shelf.put_file(File::Seal(0), seal)?;
+    shelf.put_file(File::Book(0), book)?;
+    shelf.put_file(File::Container(0, 0), container)?;
+    Ok(())
+}
+
 #[test]
 fn the_first_damage_is_named(rt: HostRuntime) -> Result<(), Fail> {
     let whole = ingest(&rt, 0)?;
@@ -106,10 +121,7 @@ fn the_first_damage_is_named(rt: HostRuntime) -> Result<(), Fail> {
     ];
     for (head, seal, book, container, want) in cases {
         let mut shelf = shelf_with(&rt, &[])?;
-        shelf.put_file(File::Head, head)?;
-        shelf.put_file(File::Seal(0), seal)?;
-        shelf.put_file(File::Book(0), book)?;
-        shelf.put_file(File::Container(0, 0), container)?;
+        put_store(&mut shelf, head, seal, book, container)?;
         assert_eq!(rt; opened(&rt, &mut shelf), want.map(StoreFault::Damaged));
     }
     Ok(())
@@ -138,5 +150,46 @@ fn a_failing_call_is_a_fault_of_the_shelf(rt: HostRuntime) -> Result<(), Fail> {
         );
         assert_eq!(rt; opened(&rt, &mut shelf), None);
     }
+    // They are all the calls: the next one is the one that fails.
+    let mut shelf = shelf_with(&rt, &[ShelfFail { call: 13, kept: 0 }])?;
+    assert_eq!(rt; init(rt.alloc(), &mut shelf, &params), Ok(()));
+    assert_eq!(rt; opened(&rt, &mut shelf), None);
+    assert_eq!(rt; shelf.len(File::Head).err(), Some(EdgeFault::Failed));
+    Ok(())
+}
+
+#[test]
+fn the_byte_that_opens_a_store_comes_last(rt: HostRuntime) -> Result<(), Fail> {
+    let params = small_params()?;
+    // What a call that fails leaves: the bytes of the head, and whether the seal is loose.
+    for (call, head, loose) in [
+        (1, 0, true),
+        (2, 0, true),
+        (3, 0, false),
+        (4, 1, false),
+        (5, 32, false),
+        (6, 33, false),
+        (7, 33, false),
+    ] {
+        let mut shelf = shelf_with(&rt, &[ShelfFail { call, kept: 1 }])?;
+        shelf.put_file(File::Seal(0), b"old")?;
+        assert_eq!(rt;
+            init(rt.alloc(), &mut shelf, &params),
+            Err(StoreFault::ShelfFault)
+        );
+        assert_eq!(rt; shelf.file(File::Head).len(), head, "call {call} fails");
+        assert_eq!(rt; shelf.is_loose(File::Seal(0)), loose, "call {call} fails");
+    }
+    Ok(())
+}
+
+#[test]
+fn opening_reads_each_record_once_and_no_container(rt: HostRuntime) -> Result<(), Fail> {
+    let whole = ingest(&rt, 0)?;
+    // Four sizes are asked for; the settings, the head of the record and the record are read.
+    let mut shelf = shelf_with(&rt, &[ShelfFail { call: 7, kept: 0 }])?;
+    put_store(&mut shelf, SMALL_HEAD, b"S", &whole, &[0; 16])?;
+    assert_eq!(rt; opened(&rt, &mut shelf), None);
+    assert_eq!(rt; shelf.len(File::Head).err(), Some(EdgeFault::Failed));
     Ok(())
 }

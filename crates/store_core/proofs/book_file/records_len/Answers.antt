@@ -11,7 +11,7 @@ returns-in_default-clause-whole g c =
     let told = content (g.F.Shelf.files c.args.shelf.now) c.args.file in
     let now = content (g.F.Shelf.files c.loop.shelf) c.args.file in
     stops_fewer c.args.records c.loop.counter c.loop.end c.in_ok-size.size told now c.in-Some.length
-    (c.loop.invariant.same_files c.args.file) c.loop.invariant.so_far c.loop.invariant.size c.loop.invariant.within
+    (c.loop.invariant.reads.same_files c.args.file) c.loop.invariant.so_far c.loop.invariant.size c.loop.invariant.within
     (omega (arith, c.if-length-size.false))
     (subst (λ (o : Option ℕ). IfSome now (λ bytes. o ≡ stated_record (drop c.loop.end bytes))) c.in-Some.is c.in_ok-length.ensures.stated)
 
@@ -20,23 +20,19 @@ returns-in_default-2-clause-whole g c =
     let told = content (g.F.Shelf.files c.args.shelf.now) c.args.file in
     let now = content (g.F.Shelf.files c.loop.shelf) c.args.file in
     stops_few c.args.records c.loop.counter c.loop.end c.in_ok-size.size told now
-    (c.loop.invariant.same_files c.args.file) c.loop.invariant.so_far
+    (c.loop.invariant.reads.same_files c.args.file) c.loop.invariant.so_far
     (subst (λ (o : Option ℕ). IfSome now (λ bytes. o ≡ stated_record (drop c.loop.end bytes))) c.in_default.is c.in_ok-length.ensures.stated)
 
 pub loop-preserved : goal.loop-preserved
 loop-preserved g c = record {
   within = omega (arith, c.if-length-size.true, c.loop.invariant.within);
-  same_files = search rules;
-  same_loose = search rules;
-  never_falls = search rules;
-  faultless_counts_none = search rules;
-  stays_faultless = search rules;
+  reads = search rules;
   size = c.loop.invariant.size;
   so_far =
       let told = content (g.F.Shelf.files c.args.shelf.now) c.args.file in
       let now = content (g.F.Shelf.files c.loop.shelf) c.args.file in
       goes_on c.args.records c.loop.counter c.loop.end c.in_ok-size.size told now c.in-Some.length
-      (c.loop.invariant.same_files c.args.file) c.loop.invariant.so_far c.loop.invariant.size c.loop.invariant.within
+      (c.loop.invariant.reads.same_files c.args.file) c.loop.invariant.so_far c.loop.invariant.size c.loop.invariant.within
       (omega (arith, c.if-length-size.true, c.loop.invariant.within)) c.loop-test.true
       (subst (λ (o : Option ℕ). IfSome now (λ bytes. o ≡ stated_record (drop c.loop.end bytes))) c.in-Some.is c.in_ok-length.ensures.stated);
 }

@@ -1,9 +1,14 @@
-use Rattle.std.proofs.Common.{ℕ, List, IfSome, ap, subst, ◌∙◌}
-use Rattle.sd_base.specs.Opening.{needed_sizes}
+use Rattle.std.proofs.Common.{◌≤◌, ℕ, List, IfSome, ap, subst, sym, ◌∙◌}
+use Rattle.std.specs.List.{All}
+use Rattle.sd_base.specs.Opening.{OpenAs, needed_sizes}
 use Rattle.sd_base.specs.Packing.{container_sizes}
+use Rattle.sd_base.specs.declared.limits.TheConstants.{MAX_CHUNK_LEN}
 use Rattle.store_core.specs.Containers.{IsFirstShort}
 use Rattle.store_core.specs.Heads.{head_state}
-use Rattle.store_core.proofs.StoreLemmas.{committed-damage, container-damage, damaged-passed, head-damage, opened-as, same-told, HasBook, HasDamage, HasSizes, Told}
+use Rattle.store_core.specs.StoreStates.{StoreState}
+use Rattle.store_core.proofs.FieldLemmas.{replayed-bounded, replayed-some}
+use Rattle.store_core.proofs.StoreLemmas.{committed-damage, container-damage, damaged-passed, head-damage, open-stands, opened-as, same-told, HasBook, HasDamage, HasSizes, Told}
+use Rattle.store_core.proofs.store.Store.open.Given as given
 use Rattle.store_core.proofs.store.Store.open.Goals as goal
 
 pub returns-in_err-head-clause-damaged : goal.returns-in_err-head-clause-damaged
@@ -15,7 +20,7 @@ pub returns-in_err-book-clause-damaged : goal.returns-in_err-book-clause-damaged
 returns-in_err-book-clause-damaged g c = λ damage is.
     let told = g.F.Shelf.files c.args.shelf.now in
     let found = c.in_err-book.ensures.damaged damage (damaged-passed c.in_err-book.field-0.0 c.from_residual-in_err-book.result damage is c.from_residual-in_err-book.ensures.1) in
-    let same = same-told told (g.F.Shelf.files c.read_head.new.shelf) c.in_ok-head.ensures.same_files in
+    let same = same-told told (g.F.Shelf.files c.read_head.new.shelf) c.in_ok-head.ensures.reads.same_files in
     committed-damage told (head_state c.in_ok-head.head) damage c.in_ok-head.ensures.head
     (subst (λ (files : Told). IfSome files (HasDamage (head_state c.in_ok-head.head) damage)) same found)
 
@@ -24,22 +29,52 @@ returns-in_err-check_containers-clause-damaged g c = λ damage is.
     let found = c.in_err-check_containers.ensures.damaged damage (damaged-passed c.in_err-check_containers.field-0.0 c.from_residual-in_err-check_containers.result damage is c.from_residual-in_err-check_containers.ensures.1) in
     let told = g.F.Shelf.files c.args.shelf.now in
     let head = head_state c.in_ok-head.head in
-    let first = same-told told (g.F.Shelf.files c.read_head.new.shelf) c.in_ok-head.ensures.same_files in
-    let second = same-told (g.F.Shelf.files c.read_head.new.shelf) (g.F.Shelf.files c.read_book.new.shelf) c.in_ok-book.ensures.same_files in
+    let first = same-told told (g.F.Shelf.files c.read_head.new.shelf) c.in_ok-head.ensures.reads.same_files in
+    let second = same-told (g.F.Shelf.files c.read_head.new.shelf) (g.F.Shelf.files c.read_book.new.shelf) c.in_ok-book.ensures.reads.same_files in
     let sizes = ap container_sizes (c.deref.ensures.value ∙ c.in_ok-lengths.ensures.lengths) in
     container-damage told head c.in_ok-book.book damage c.in_ok-head.ensures.head
     (subst (λ (files : Told). IfSome files (HasBook head c.in_ok-book.book)) first c.in_ok-book.ensures.committed)
     (subst (λ (files : Told). IfSome files (λ f. IsFirstShort f c.in_ok-head.head.generation (needed_sizes c.in_ok-book.book) damage)) (second ∙ first)
     (subst (λ (ns : List ℕ). IfSome (g.F.Shelf.files c.read_book.new.shelf) (λ f. IsFirstShort f c.in_ok-head.head.generation ns damage)) sizes found))
 
-pub returns-clause-opened : goal.returns-clause-opened
-returns-clause-opened g c =
+pub opened_store-requires-clause-none_empty : goal.opened_store-requires-clause-none_empty
+opened_store-requires-clause-none_empty g c = λ κs live.
+    let replay = c.in_ok-book.ensures.replayed in
+    subst (λ (ns : List ℕ). All (λ n. 1 ≤ n) ns) (sym (c.deref-2.ensures.value ∙ c.in_ok-lengths.ensures.lengths))
+    (replayed-some c.in_ok-head.head.params.max replay.0 replay.1 c.in_ok-book.book replay.2)
+
+pub opened_store-requires-clause-bounded : goal.opened_store-requires-clause-bounded
+opened_store-requires-clause-bounded g c = λ κs live.
+    let replay = c.in_ok-book.ensures.replayed in
+    subst (λ (ns : List ℕ). All (λ n. n ≤ MAX_CHUNK_LEN) ns) (sym (c.deref-2.ensures.value ∙ c.in_ok-lengths.ensures.lengths))
+    (replayed-bounded c.in_ok-head.head.params.max replay.0 replay.1 c.in_ok-book.book replay.2)
+
+-- what the files opened as
+opens : (g : given.Over) (c : goal.After-drop-lengths-2 g) → IfSome (g.F.Shelf.files c.args.shelf.now)
+    (λ files. OpenAs files (record { head = head_state c.in_ok-head.head; book = c.in_ok-book.book }))
+opens g c =
     let told = g.F.Shelf.files c.args.shelf.now in
     let head = head_state c.in_ok-head.head in
-    let first = same-told told (g.F.Shelf.files c.read_head.new.shelf) c.in_ok-head.ensures.same_files in
-    let second = same-told (g.F.Shelf.files c.read_head.new.shelf) (g.F.Shelf.files c.read_book.new.shelf) c.in_ok-book.ensures.same_files in
+    let first = same-told told (g.F.Shelf.files c.read_head.new.shelf) c.in_ok-head.ensures.reads.same_files in
+    let second = same-told (g.F.Shelf.files c.read_head.new.shelf) (g.F.Shelf.files c.read_book.new.shelf) c.in_ok-book.ensures.reads.same_files in
     let sizes = ap container_sizes (c.deref.ensures.value ∙ c.in_ok-lengths.ensures.lengths) in
     opened-as told head c.in_ok-book.book c.in_ok-head.ensures.head
     (subst (λ (files : Told). IfSome files (HasBook head c.in_ok-book.book)) first c.in_ok-book.ensures.committed)
     (subst (λ (files : Told). IfSome files (HasSizes c.in_ok-head.head.generation (needed_sizes c.in_ok-book.book))) (second ∙ first)
     (subst (λ (ns : List ℕ). IfSome (g.F.Shelf.files c.read_book.new.shelf) (HasSizes c.in_ok-head.head.generation ns)) sizes c.in_ok-check_containers.ensures.long_enough))
+
+pub returns-clause-opened : goal.returns-clause-opened
+returns-clause-opened g c =
+    subst (λ (s : StoreState). IfSome (g.F.Shelf.files c.args.shelf.now) (λ files. OpenAs files s.opened))
+    (sym c.in_ok-opened_store.ensures.opened) (opens g c)
+
+pub returns-clause-stands : goal.returns-clause-stands
+returns-clause-stands g c = λ state.
+    let namer = g.met.N.Namer g.world.𝓛 g.world.𝓜 g.world.𝓡 ((λ s x. x), (λ x. x), (λ x. x), λ x. x) in
+    let told = g.F.Shelf.files c.args.shelf.now in
+    let first = same-told told (g.F.Shelf.files c.read_head.new.shelf) c.in_ok-head.ensures.reads.same_files in
+    let second = same-told (g.F.Shelf.files c.read_head.new.shelf) (g.F.Shelf.files c.read_book.new.shelf) c.in_ok-book.ensures.reads.same_files in
+    let third = same-told (g.F.Shelf.files c.read_book.new.shelf) (g.F.Shelf.files c.check_containers.new.shelf) c.in_ok-check_containers.ensures.reads.same_files in
+    open-stands g.N.Namer.name_of told (g.F.Shelf.files c.check_containers.new.shelf) state c.in_ok-opened_store.field-0
+    (record { head = head_state c.in_ok-head.head; book = c.in_ok-book.book }) namer.whole
+    c.in_ok-opened_store.ensures.opened (third ∙ second ∙ first) (opens g c)

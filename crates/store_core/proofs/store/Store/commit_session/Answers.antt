@@ -1,0 +1,67 @@
+use Rattle.std.proofs.Common.{◌≡◌, ◌≤◌, inl, ap, subst, sym, ◌∙◌}
+use Rattle.std.specs.List.{All}
+use Rattle.container_pack.proofs.PackerLemmas.{on_err}
+use Rattle.sd_base.specs.Books.{BookState, MayIngest}
+use Rattle.sd_base.specs.Records.{IsIngestWithinLimits}
+use Rattle.sd_base.specs.declared.record.IngestRecord.{IngestRecord}
+use Rattle.sd_base.specs.declared.record.NewChunk.{NewChunk}
+use Rattle.store_core.specs.StoreFields.{ArePlaced}
+use Rattle.store_core.specs.StoreStates.{StoreState, chunks_of_store}
+use Rattle.store_core.proofs.SessionLemmas.{nothing-committed, placed-committed, session-follows, session-within}
+use Rattle.store_core.proofs.store.Store.commit_session.Goals as goal
+
+pub returns-in_err-session_record-clause-not_written : goal.returns-in_err-session_record-clause-not_written
+returns-in_err-session_record-clause-not_written g c = on_err c.from_residual.result (inl (nothing-committed _ _ _))
+
+pub returns-in_err-bytes-clause-not_written : goal.returns-in_err-bytes-clause-not_written
+returns-in_err-bytes-clause-not_written g c = on_err c.from_residual-in_err-bytes.result (inl (nothing-committed _ _ _))
+
+pub returns-in_err-add-clause-not_written : goal.returns-in_err-add-clause-not_written
+returns-in_err-add-clause-not_written g c = on_err c.from_residual-in_err-add.result (inl (nothing-committed _ _ _))
+
+pub encode_record-requires : goal.encode_record-requires
+encode_record-requires g c =
+    let inside = c.self.inside in
+    let placed = subst (λ (s : StoreState). ArePlaced (chunks_of_store s) s.opened.head.generation inside.spots.items inside.packer inside.index)
+    c.self.view_is c.self.invariant.1 in
+    subst IsIngestWithinLimits (sym c.in_ok-session_record.ensures)
+    (session-within c.args.self.now _ _ _ _ placed c.args.name.now c.args.length c.args.recipe.now c.requires.room)
+
+pub add-requires-clause-follows : goal.add-requires-clause-follows
+add-requires-clause-follows g c =
+    let inside = c.self.inside in
+    let now = c.args.self.now in
+    let placed = subst (λ (s : StoreState). ArePlaced (chunks_of_store s) s.opened.head.generation inside.spots.items inside.packer inside.index)
+    c.self.view_is c.self.invariant.1 in
+    let max : inside.book.max ≡ now.opened.head.params.max =
+    c.self.invariant.0 ∙ ap (λ (s : StoreState). s.opened.head.params.max) c.self.view_is in
+    subst (λ (s : StoreState). MayIngest inside.book.max s.opened.book.sessions c.in_ok-session_record.field-0) (sym c.self.view_is)
+    (subst (λ (entry : IngestRecord). MayIngest inside.book.max now.opened.book.sessions entry) (sym c.in_ok-session_record.ensures)
+    (session-follows now _ _ _ _ placed c.args.name.now c.args.length c.args.recipe.now c.requires.room inside.book.max
+    (subst (λ n. All (λ (chunk : NewChunk). chunk.length ≤ n) now.offered) (sym max) c.requires.short)))
+
+pub invariant_of-self-in_err-commit_bytes : goal.invariant_of-self-in_err-commit_bytes
+invariant_of-self-in_err-commit_bytes g c =
+    let inside = c.self.inside in
+    let added = c.in_ok-add.ensures.added in
+    let fresh = ap (λ (entry : IngestRecord). entry.fresh) c.in_ok-session_record.ensures
+    ∙ ap (λ (s : StoreState). s.offered) (sym c.self.view_is) in (
+      ap (λ (book : BookState). book.max) added ∙ c.self.invariant.0,
+      placed-committed inside.book.sessions c.add.new.self.sessions c.in_ok-session_record.field-0 inside.offered.items
+          c.clear.new.self.items inside.generation inside.spots.items inside.packer c.commit_bytes.new.packer inside.index
+          c.self.invariant.1 (ap (λ (book : BookState). book.sessions) added) fresh c.clear.ensures.items
+          c.commit_bytes.ensures.generation c.commit_bytes.ensures.behind,
+    )
+
+pub invariant_of-self-2 : goal.invariant_of-self-2
+invariant_of-self-2 g c =
+    let inside = c.self.inside in
+    let added = c.in_ok-add.ensures.added in
+    let fresh = ap (λ (entry : IngestRecord). entry.fresh) c.in_ok-session_record.ensures
+    ∙ ap (λ (s : StoreState). s.offered) (sym c.self.view_is) in (
+      ap (λ (book : BookState). book.max) added ∙ c.self.invariant.0,
+      placed-committed inside.book.sessions c.add.new.self.sessions c.in_ok-session_record.field-0 inside.offered.items
+          c.clear.new.self.items inside.generation inside.spots.items inside.packer c.commit_bytes.new.packer inside.index
+          c.self.invariant.1 (ap (λ (book : BookState). book.sessions) added) fresh c.clear.ensures.items
+          c.commit_bytes.ensures.generation c.commit_bytes.ensures.behind,
+    )

@@ -1,0 +1,17 @@
+use Rattle.std.proofs.Common.{subst, sym}
+use Rattle.std.specs.Prelude.{IfOk, IfSome}
+use Rattle.store_core.specs.Offers.{IsOffered}
+use Rattle.store_core.specs.StoreStates.{StandsFor, StoreState}
+use Rattle.store_core.proofs.OfferSteps.{offered-sound}
+use Rattle.store_core.proofs.store.Store.offer.Goals as goal
+
+pub returns-clause-stands : goal.returns-clause-stands
+returns-clause-stands g c = λ state offered.
+    let old = g.F.Shelf.files c.args.shelf.now in
+    let now = g.F.Shelf.files c.find_or_append-outcome.new.shelf in
+    subst (λ (s : StoreState). IfSome old (λ before. StandsFor g.N.Namer.name_of c.args.self.now before state offered →
+    IfOk c.find_or_append-outcome.result (λ i. IsOffered g.N.Namer.name_of state offered c.args.chunk.now i
+    (record s { sound = c.stays_sound-self-inside.result }) now)))
+    (sym c.self.view_is)
+    (offered-sound g.N.Namer.name_of c.args.self.now c.find_or_append-outcome.new.self c.stays_sound-self-inside.result
+    state offered c.args.chunk.now old now c.find_or_append-outcome.result (c.find_or_append-outcome.ensures.stands state offered))

@@ -1,0 +1,57 @@
+-- A store as its callers see it, and what it stands on: the files of its shelf.
+use Rattle.std.specs.Prelude.{◌≡◌, ℕ, Bool, List, [], ◌++◌, map, take, drop, slice_index_or, Some}
+use Rattle.container_pack.specs.Containers.{ContainersBegin}
+use Rattle.container_pack.specs.Spots.{spots_of}
+use Rattle.container_pack.specs.declared.spot.Spot.{Spot}
+use Rattle.sd_base.specs.Books.{chunks_in}
+use Rattle.sd_base.specs.Distinct.{AreDifferent}
+use Rattle.sd_base.specs.Opening.{Opened}
+use Rattle.sd_base.specs.Packing.{packing}
+use Rattle.sd_base.specs.StateBooks.{book_of_state}
+use Rattle.sd_base.specs.States.{IsLawful, State, stored_chunks}
+use Rattle.sd_base.specs.Stores.{HoldState, named}
+use Rattle.sd_base.specs.declared.file.File.{File}
+use Rattle.sd_base.specs.declared.file.File.TheVariants.{Container}
+use Rattle.sd_base.specs.declared.record.NewChunk.{NewChunk}
+use Rattle.store_core.specs.StoreFields.{lengths_of}
+
+-- a store: what it opened as, with what was committed since; the chunks that were offered since the
+-- last commit; and whether it may be used
+pub record StoreState : Type 0 where
+  pub opened : Opened
+  pub offered : List NewChunk
+  pub sound : Bool
+
+-- the chunks of a store by their lengths and names: the committed ones, and then those offered
+abbrev pub chunks_of_store : StoreState → List NewChunk
+chunks_of_store store = chunks_in store.opened.book.sessions ++ store.offered
+
+-- chunk i, or none of any length
+abbrev pub kept_chunk : StoreState → ℕ → NewChunk
+kept_chunk store i = slice_index_or (chunks_of_store store) i (record { length = 0; name = [] })
+
+-- where chunk i lies
+abbrev pub spot_of_chunk : StoreState → ℕ → Spot
+spot_of_chunk store i =
+    slice_index_or (spots_of (lengths_of (chunks_of_store store))) i (record { container = 0; offset = 0 })
+
+-- the bytes of chunk i as they are read: fewer than its length if its container ends before
+abbrev pub chunk_as_read : (File → List ℕ) → StoreState → ℕ → List ℕ
+chunk_as_read files store i =
+    let spot = spot_of_chunk store i in
+    take (kept_chunk store i).length (drop spot.offset (files (Container store.opened.head.generation spot.container)))
+
+-- The store stands for a state, with these chunks offered, on a shelf with these files: the files
+-- hold the state, and the containers begin with its chunks and those offered. No two of them are
+-- equal.
+pub record StandsFor (name_of : List ℕ → List ℕ) (store : StoreState) (files : File → List ℕ)
+    (state : State) (offered : List (List ℕ)) : Type 0 where
+  pub lawful : IsLawful state
+  pub opened : store.opened ≡ record {
+    head = record { params = state.params; generation = state.generation };
+    book = book_of_state name_of state;
+  }
+  pub offers : store.offered ≡ map (named name_of) offered
+  pub different : AreDifferent (stored_chunks state ++ offered)
+  pub held : HoldState name_of files state
+  pub begin : ContainersBegin (Some files) state.generation (packing (stored_chunks state ++ offered))

@@ -1,0 +1,188 @@
+//! A session is restored from a store.
+ghost use Rattle.std.specs.Prelude.{◌≡◌, ◌⊎◌, ◌↔◌, ◌^◌, ◌<◌, ◌∷◌, [], ℕ, List, length, nat_le, IfOk, IfSome, OnOk, OnErr, Err, Some, None};
+ghost use Rattle.std.specs.List.{position};
+ghost use Rattle.edge_traits.specs.Sink.{Appends, AppendsPrefix};
+ghost use Rattle.sd_base.specs.Books.{live_session};
+ghost use Rattle.sd_base.specs.States.{State};
+ghost use Rattle.sd_base.specs.declared.damage.Damage.{Damage};
+ghost use Rattle.sd_base.specs.declared.damage.Damage.TheVariants.{Recipe};
+ghost use Rattle.store_core.specs.Containers.{OnlyFinds};
+ghost use Rattle.store_core.specs.Offers.{IsReadDamaged};
+ghost use Rattle.store_core.specs.Restores.{FindsDamage, IsIntact, OnlyRestores, RestoresAll, RestoresPart, RestoresState, recipe_named, unknown_place};
+ghost use Rattle.store_core.specs.Shelves.{CountsFaults, OnlyReads};
+ghost use Rattle.store_core.specs.StoreStates.{StandsFor, chunk_as_read, chunks_of_store, kept_chunk};
+
+use super::Store;
+use crate::StoreFault;
+use chunk_names::Namer;
+use container_pack::read_chunk;
+use edge_traits::{EdgeFault, Shelf, Sink, write_all};
+use sd_base::{Damage, Name};
+
+impl<N: Namer> Store<N> {
+    /// Writes the bytes of the live session of a name to a sink: the chunks of its recipe, in order, as
+    /// they are read. Changes no file.
+    ///
+    /// `NoSession` is returned exactly if no live session has the name. `Damaged` is returned if the
+    /// recipe names no chunk at some place, and then nothing was read or written. Otherwise it is
+    /// returned only if the bytes of a chunk, as they are read, have another name than the one that is
+    /// kept, and then exactly the chunks of the places before it were written. `ShelfFault` is returned
+    /// only if the shelf's count of faults rose, `SinkFault` only if the sink's did. After them, and if
+    /// memory runs out, a prefix of the bytes of the first chunks was written, all of which have their
+    /// names.
+    pub fn restore<F: Shelf, K: Sink>(
+        &self,
+        shelf: &mut F,
+        sink: &mut K,
+        name: &Name,
+    ) -> Result<(), StoreFault>
+        ensures no_session { (result ≡ Err StoreFault.NoSession) ↔ (live_session self.now.opened.book.sessions name.now ≡ None) }
+        ensures refused { OnErr result (OnlyRestores result) }
+
+        // Nothing is read or written if there is no such session, or if its recipe names no chunk at
+        // some place.
+        ensures untouched { result ≡ Err StoreFault.NoSession → (shelf.new ≡ shelf.old) × (sink.new ≡ sink.old) }
+        ensures unknown { (session place : ℕ) → live_session self.now.opened.book.sessions name.now ≡ Some session
+            → unknown_place self.now (recipe_named self.now name.now) ≡ Some place
+            → (result ≡ Err (StoreFault.Damaged (Recipe session place))) × (shelf.new ≡ shelf.old) × (sink.new ≡ sink.old) }
+
+        // The chunks are written as they are read, and only if they have their names.
+        ensures restored { OnOk result (IfSome (F.files shelf.old) (λ files. RestoresAll N.name_of files
+            self.now (recipe_named self.now name.now) (K.written sink.old) (K.written sink.new))) }
+        ensures damaged { (damage : Damage) → result ≡ Err (StoreFault.Damaged damage)
+            → unknown_place self.now (recipe_named self.now name.now) ≡ None
+            → IfSome (F.files shelf.old) (λ files. FindsDamage N.name_of files self.now (recipe_named self.now name.now)
+            damage (K.written sink.old) (K.written sink.new)) }
+        ensures prefix { OnErr result (IfSome (F.files shelf.old) (λ files. RestoresPart N.name_of files
+            self.now (recipe_named self.now name.now) (K.written sink.old) (K.written sink.new))) }
+
+        ensures reads { OnlyReads (result ≡ Err StoreFault.ShelfFault) F.files F.loose F.faults F.faultless
+            shelf.old shelf.new }
+        ensures counts { CountsFaults (result ≡ Err StoreFault.SinkFault) K.faults K.faultless sink.old sink.new }
+
+        // If the store stands for a state, these are the bytes of the state's session.
+        ensures stands { (state : State) (offered : List (List ℕ)) → IfSome (F.files shelf.old) (λ files.
+            StandsFor N.name_of self.now files state offered
+            → RestoresState state name.now result (K.written sink.old) (K.written sink.new)) }
+    {
+        let Some(session) = self.book.find(name) else {
+            return Err(StoreFault::NoSession);
+        };
+        let Some(entry) = self.book.session(session) else {
+            return Err(StoreFault::NoSession);
+        };
+        let recipe = entry.recipe.as_slice();
+        if let Some(place) = self.unknown_place(recipe) {
+            prove!(recipe.len() <= self.book.places() as usize);
+            let place = place as u32;
+            return Err(StoreFault::Damaged(Damage::Recipe { session, place }));
+        }
+        self.restore_places(shelf, sink, recipe)
+    }
+
+    // The first place of a recipe at which no chunk is named.
+    fn unknown_place(&self, recipe: &[u32]) -> Option<usize>
+        ensures { result ≡ unknown_place self.now recipe.now }
+    {
+        let count = self.count();
+        recipe.iter().position(|number| count <= *number)
+    }
+
+    // Restores place after place of a recipe, so that one chunk at a time is held in memory.
+    fn restore_places<F: Shelf, K: Sink>(
+        &self,
+        shelf: &mut F,
+        sink: &mut K,
+        recipe: &[u32],
+    ) -> Result<(), StoreFault>
+        requires known { unknown_place self.now recipe.now ≡ None }
+
+        ensures restored { OnOk result (IfSome (F.files shelf.old) (λ files.
+            RestoresAll N.name_of files self.now recipe.now (K.written sink.old) (K.written sink.new))) }
+        ensures damaged { (damage : Damage) → result ≡ Err (StoreFault.Damaged damage)
+            → IfSome (F.files shelf.old) (λ files.
+            FindsDamage N.name_of files self.now recipe.now damage (K.written sink.old) (K.written sink.new)) }
+        ensures prefix { OnErr result (IfSome (F.files shelf.old) (λ files.
+            RestoresPart N.name_of files self.now recipe.now (K.written sink.old) (K.written sink.new))) }
+        ensures refused { OnErr result (OnlyRestores result) }
+        ensures session { result ≡ Err StoreFault.NoSession → ⊥ }
+
+        ensures reads { OnlyReads (result ≡ Err StoreFault.ShelfFault) F.files F.loose F.faults F.faultless
+            shelf.old shelf.new }
+        ensures counts { CountsFaults (result ≡ Err StoreFault.SinkFault) K.faults K.faultless sink.old sink.new }
+    {
+        for number in recipe {
+            self.restore_chunk(shelf, sink, *number)?;
+        }
+        Ok(())
+    }
+
+    // Restores one chunk.
+    fn restore_chunk<F: Shelf, K: Sink>(
+        &self,
+        shelf: &mut F,
+        sink: &mut K,
+        number: u32,
+    ) -> Result<(), StoreFault>
+        requires within { number < length (chunks_of_store self.now) }
+
+        ensures restored { OnOk result (IfSome (F.files shelf.old) (λ files.
+            RestoresAll N.name_of files self.now (number ∷ []) (K.written sink.old) (K.written sink.new))) }
+        ensures damaged { (damage : Damage) → result ≡ Err (StoreFault.Damaged damage)
+            → IfSome (F.files shelf.old) (λ files.
+            FindsDamage N.name_of files self.now (number ∷ []) damage (K.written sink.old) (K.written sink.new)) }
+        ensures prefix { OnErr result (IfSome (F.files shelf.old) (λ files.
+            RestoresPart N.name_of files self.now (number ∷ []) (K.written sink.old) (K.written sink.new))) }
+        ensures refused { OnErr result (OnlyRestores result) }
+        ensures session { result ≡ Err StoreFault.NoSession → ⊥ }
+
+        ensures reads { OnlyReads (result ≡ Err StoreFault.ShelfFault) F.files F.loose F.faults F.faultless
+            shelf.old shelf.new }
+        ensures counts { CountsFaults (result ≡ Err StoreFault.SinkFault) K.faults K.faultless sink.old sink.new }
+    {
+        let chunk = self.intact_chunk(shelf, number)?;
+        write_piece(sink, &chunk)
+    }
+
+    // The bytes of a chunk as they are read. They must have its name.
+    fn intact_chunk<F: Shelf>(&self, shelf: &mut F, number: u32) -> Result<Vec<u8>, StoreFault>
+        requires within { number < length (chunks_of_store self.now) }
+
+        ensures bytes { IfOk result (λ chunk. IfSome (F.files shelf.old) (λ files.
+            chunk.items ≡ chunk_as_read files self.now number)) }
+        ensures intact { IfOk result (λ chunk. N.name_of chunk.items ≡ (kept_chunk self.now number).name) }
+        ensures damaged { (damage : Damage) → result ≡ Err (StoreFault.Damaged damage)
+            → IfSome (F.files shelf.old) (λ files. IsReadDamaged N.name_of files self.now number damage) }
+        ensures refused { OnErr result (OnlyFinds result) }
+
+        ensures reads { OnlyReads (result ≡ Err StoreFault.ShelfFault) F.files F.loose F.faults F.faultless
+            shelf.old shelf.new }
+    {
+        let kept = self.chunk(number);
+        let spot = self.spots[number as usize];
+        let chunk = read_chunk(self.alloc, shelf, self.generation, spot, kept.length)?;
+        let (kept, found) = (kept.name, self.namer.name(&chunk));
+        if found != kept {
+            return Err(StoreFault::Damaged(Damage::Chunk {
+                number,
+                kept,
+                found,
+            }));
+        }
+        Ok(chunk)
+    }
+}
+
+// Writes a whole piece. A fault is that of the sink.
+fn write_piece<K: Sink>(sink: &mut K, bytes: &[u8]) -> Result<(), StoreFault>
+    ensures written { OnOk result (Appends (K.written sink.old) (K.written sink.new) bytes.now) }
+    ensures prefix { OnErr result (AppendsPrefix (K.written sink.old) (K.written sink.new) bytes.now) }
+    ensures refused { OnErr result ((result ≡ Err StoreFault.SinkFault) ⊎ (result ≡ Err StoreFault.OutOfMemory)) }
+    ensures counts { CountsFaults (result ≡ Err StoreFault.SinkFault) K.faults K.faultless sink.old sink.new }
+{
+    match write_all(sink, bytes) {
+        Ok(()) => Ok(()),
+        Err(EdgeFault::Failed) => Err(StoreFault::SinkFault),
+        Err(EdgeFault::OutOfMemory) => Err(StoreFault::OutOfMemory),
+    }
+}
