@@ -297,16 +297,48 @@ long_enough name_of files state holds k within =
     let whole = ap length held.1 ∙ length-append (slice_index_or containers k []) held.0 in
     omega (arith, needed, whole)
 
+-- the ingests of a lawful state have chunks that are neither empty nor too long
+lawful-ingests : (state : State) → IsLawful state → AllIngests (IsFit state.params.max) state.events
+lawful-ingests state lawful =
+    let fits = fit-sessions state.params lawful.params (sessions_in state)
+    (recursion_from_All (λ (s : StoredSession). IsCutting state.params s.chunks) (sessions_in state) lawful.cut)
+    (recursion_from_All (λ (s : StoredSession). length (bytes_of_session s) < 2 ^ 32) (sessions_in state) lawful.bytes) in
+    (ingests-from_sessions (IsFit state.params.max) state.events [] fits).1
+
+-- the records of a lawful state are of the grammar, and each may follow those before it
+pub state-records : (name_of : List ℕ → List ℕ) → GivesNames name_of → (state : State) → IsLawful state →
+    AreRecords state.params.max [] (records_of name_of state)
+state-records name_of names state lawful =
+    lawful-records name_of names state.params.max lawful.params.max.1 (stored_chunks state) lawful.chunks state.events [] lawful.events
+    (lawful-ingests state lawful) lawful.sessions lawful.places lawful.chunks (placed-stored state)
+
+-- there is one for each event
+pub state-records-count : (name_of : List ℕ → List ℕ) (state : State) → length (records_of name_of state) ≡ length state.events
+state-records-count name_of state = length-records_from name_of (stored_chunks state) [] state.events
+
+all-append : (P : List ℕ → Type 0) (xs ys : List (List ℕ)) → AllByRecursion P xs → AllByRecursion P ys → AllByRecursion P (xs ++ ys)
+all-append P [] ys first second = second
+all-append P (x ∷ xs) ys first second = (first.0, all-append P xs ys first.1 second)
+
+placed-sizes : (max : ℕ) (events : List Event) → AllIngests (IsFit max) events →
+    AllByRecursion (λ chunk. (1 ≤ length chunk) × (length chunk ≤ max)) (placed_chunks events)
+placed-sizes max [] fit = tt
+placed-sizes max (ingested name chunks ∷ events) fit =
+    all-append (λ chunk. (1 ≤ length chunk) × (length chunk ≤ max)) chunks (placed_chunks events) fit.0.sizes (placed-sizes max events fit.1)
+placed-sizes max (dropped k ∷ events) fit = placed-sizes max events fit
+
+-- no stored chunk of a lawful state is empty
+pub stored-some : (state : State) → IsLawful state → AllByRecursion (λ n. 1 ≤ n) (map length (stored_chunks state))
+stored-some state lawful =
+    all-map length (λ chunk. (1 ≤ length chunk) × (length chunk ≤ state.params.max)) (λ n. 1 ≤ n) (λ chunk size. size.0) (stored_chunks state)
+    (all-distinct (λ chunk. (1 ≤ length chunk) × (length chunk ≤ state.params.max)) (placed_chunks state.events)
+    (placed-sizes state.params.max state.events (lawful-ingests state lawful)))
+
 -- files that hold a lawful state open as its book
 pub held_state_opens : (name_of : List ℕ → List ℕ) → GivesNames name_of → (files : File → List ℕ) (state : State) → IsLawful state → HoldState name_of files state →
     OpenAs files (record { head = record { params = state.params; generation = state.generation }; book = book_of_state name_of state })
 held_state_opens name_of names files state lawful holds =
     let stored = stored_chunks state in
-    let fits = fit-sessions state.params lawful.params (sessions_in state)
-    (recursion_from_All (λ (s : StoredSession). IsCutting state.params s.chunks) (sessions_in state) lawful.cut)
-    (recursion_from_All (λ (s : StoredSession). length (bytes_of_session s) < 2 ^ 32) (sessions_in state) lawful.bytes) in
-    let records = lawful-records name_of names state.params.max lawful.params.max.1 stored lawful.chunks state.events [] lawful.events
-    (ingests-from_sessions (IsFit state.params.max) state.events [] fits).1 lawful.sessions lawful.places lawful.chunks (placed-stored state) in
     let sound = ap (recipe_damage [] 0) (sessions-book name_of state)
     ∙ no_recipe_damage name_of stored [] [] 0 (sessions_in state)
     (ap distinct (sym (chunks-placed state)) ∙ sym (append-nil (distinct (session_chunks (sessions_in state))))) in
@@ -314,8 +346,8 @@ held_state_opens name_of names files state lawful holds =
       head = record { valid = lawful.params; settings = holds.settings; size = holds.generation; within_limit = lawful.generation };
       committed = record {
         records = records_of name_of state;
-        count = length-records_from name_of stored [] state.events ∙ sym holds.seal;
-        holds = record { lawful = records; rest = holds.book.0; spelled = holds.book.1 };
+        count = state-records-count name_of state ∙ sym holds.seal;
+        holds = record { lawful = state-records name_of names state lawful; rest = holds.book.0; spelled = holds.book.1 };
         recipes = sound;
         equals = refl;
       };

@@ -15,6 +15,8 @@ pub mod Covering
 pub mod Ranges
 -- bytes are a name if and only if they are not refused, and how a `Name` keeps them
 pub mod Names
+-- what words give a command is in its range
+pub mod Commands
 -- the distinct chunks of a longer list begin with those of a shorter one
 pub mod Distinct
 -- one more event only adds to the stored chunks and to the records of a state
@@ -29,6 +31,8 @@ pub mod Files
 pub mod StateBooks
 -- files that hold a lawful state open as its book
 pub mod HeldStates
+-- a run leads from a lawful state to a lawful state, and gives back what was taken in
+pub mod Passes
 -- the worked stores are lawful states
 pub mod StateExamples
 -- a worked verdict of opening for each kind of damage

@@ -14,24 +14,24 @@ use Rattle.sd_base.specs.Polynomial.{remainder, fingerprint}
 use Rattle.sd_base.specs.Cutting.{is_match, next_cut, cuts_within, cuts_of, chunks_of}
 use Rattle.sd_base.specs.Names.{bad_name}
 use Rattle.sd_base.specs.Packing.{packing}
-use Rattle.sd_base.specs.Words.{default_params, default_plan, bad_word, command_of}
+use Rattle.sd_base.specs.Words.{default_params, default_plan, default_how, bad_word, command_of}
 use Rattle.sd_base.specs.Records.{ingest_body, spelling_of}
 use Rattle.sd_base.specs.Books.{sessions_of, places_in, live_session, recipe_flaw, recipe_damage}
 use Rattle.sd_base.specs.Texts.{plan_text}
-use Rattle.sd_base.specs.OnePass.{one_pass}
+use Rattle.sd_base.specs.OnePass.{one_pass, refusal, success}
 use Rattle.sd_base.specs.declared.raw_params.RawParams.{RawParams}
-use Rattle.sd_base.specs.declared.limits.TheConstants.{WINDOW, MIN_POLYNOMIAL, MAX_BITS, MIN_CHUNK_LEN, MAX_NAME, MAX_INPUT, MAX_CHUNKS, MAX_PLACES, MAX_SESSIONS, MAX_CONTAINER, CONTAINER_HEADER, MAX_CHUNK_LEN, DEFAULT_POLYNOMIAL, DEFAULT_BITS, DEFAULT_TARGET, DEFAULT_MIN, DEFAULT_MAX, DEFAULT_WORKERS, DEFAULT_SEGMENT}
+use Rattle.sd_base.specs.declared.limits.TheConstants.{WINDOW, MIN_POLYNOMIAL, MAX_BITS, MIN_CHUNK_LEN, MAX_NAME, MAX_INPUT, MAX_CHUNKS, MAX_PLACES, MAX_SESSIONS, MAX_CONTAINER, CONTAINER_HEADER, MAX_CHUNK_LEN, DEFAULT_POLYNOMIAL, DEFAULT_BITS, DEFAULT_TARGET, DEFAULT_MIN, DEFAULT_MAX, DEFAULT_WORKERS, DEFAULT_SEGMENT, DEFAULT_BATCH, DEFAULT_SHARDS, MAX_WORKERS, MAX_SEGMENT, MIN_BATCH, MAX_BATCH, MAX_SHARDS}
 use Rattle.sd_base.specs.declared.record.TheConstants.{INGEST_KIND, DROP_KIND, NUMBER_LEN, DIGEST_LEN, AROUND_BODY}
 use Rattle.sd_base.specs.declared.name.BadName.TheVariants.{Length, Letter}
 use Rattle.sd_base.specs.declared.params.BadParams.TheVariants.{Bits}
-use Rattle.sd_base.specs.declared.words.BadKind.TheVariants.{Missing, Command as NoCommand, Key as NoKey, Twice, Value}
+use Rattle.sd_base.specs.declared.words.BadKind.TheVariants.{Missing, Command as NoCommand, Name as NoName, Key as NoKey, Twice, Value}
 use Rattle.sd_base.specs.declared.damage.Damage.TheVariants.{Recipe}
 use Rattle.sd_base.specs.declared.record.NewChunk.{NewChunk}
 use Rattle.sd_base.specs.declared.record.IngestRecord.{IngestRecord}
-use Rattle.sd_base.specs.declared.record.Record.TheVariants.{Ingest, Drop}
-use Rattle.sd_base.specs.declared.words.Quiet.TheVariants.{Plan}
-use Rattle.sd_base.specs.declared.words.Command.TheVariants.{Quiet}
-use Rattle.sd_base.specs.declared.outcome.Outcome.TheVariants.{Done, BadParams}
+use Rattle.sd_base.specs.declared.record.Record.TheVariants.{Ingest as IngestEntry, Drop}
+use Rattle.sd_base.specs.declared.words.Quiet.TheVariants.{Plan, Init, List as ListSessions, Restore}
+use Rattle.sd_base.specs.declared.words.Command.TheVariants.{Quiet, Ingest}
+use Rattle.sd_base.specs.declared.outcome.Outcome.TheVariants.{BadParams}
 
 -- the parameters that are used if none is given are valid
 pub IsValid-default_params : IsValid default_params
@@ -99,6 +99,21 @@ CONTAINER_HEADER-is = refl
 
 pub MAX_CHUNK_LEN-is : MAX_CHUNK_LEN ≡ 1048576
 MAX_CHUNK_LEN-is = refl
+
+pub MAX_WORKERS-is : MAX_WORKERS ≡ 64
+MAX_WORKERS-is = refl
+
+pub MAX_SEGMENT-is : MAX_SEGMENT ≡ 2 ^ 28
+MAX_SEGMENT-is = refl
+
+pub MIN_BATCH-is : MIN_BATCH ≡ 65536
+MIN_BATCH-is = refl
+
+pub MAX_BATCH-is : MAX_BATCH ≡ 16777216
+MAX_BATCH-is = refl
+
+pub MAX_SHARDS-is : MAX_SHARDS ≡ 256
+MAX_SHARDS-is = refl
 
 -- the polynomial t^63 + 1
 abbrev pub sparse : ℕ
@@ -211,7 +226,7 @@ unfolding digits encode_with sha256 digest_bytes hash_after compress rounds sche
 plan_text-two_chunks = refl
 
 -- nothing is printed for an empty input
-pub one_pass-plan_of_nothing : one_pass (codes "plan" ∷ []) [] ≡ record { outcome = Done; text = [] }
+pub one_pass-plan_of_nothing : one_pass (codes "plan" ∷ []) None [] ≡ success None []
 unfolding cuts_within
 one_pass-plan_of_nothing = refl
 
@@ -256,10 +271,70 @@ pub command_of-keys :
     ≡ Ok (Quiet (Plan (small_params 1) 4 65536))
 command_of-keys = refl
 
+pub command_of-init :
+    command_of
+    (codes "init" ∷ codes "polynomial=8000000000000001" ∷ codes "target=0" ∷ codes "min=64" ∷ codes "max=256" ∷ [])
+    ≡ Ok (Quiet (Init (small_params 0)))
+command_of-init = refl
+
+pub command_of-init_without_keys : command_of (codes "init" ∷ []) ≡ Ok (Quiet (Init default_params))
+command_of-init_without_keys = refl
+
+-- `init` has the keys of parameters and no others
+pub command_of-init_with_workers : command_of (codes "init" ∷ codes "bits=9" ∷ codes "workers=2" ∷ []) ≡ bad_word NoKey 2
+command_of-init_with_workers = refl
+
+pub command_of-init_with_a_bad_value : command_of (codes "init" ∷ codes "min=-1" ∷ []) ≡ bad_word Value 1
+command_of-init_with_a_bad_value = refl
+
+pub command_of-ingest : command_of (codes "ingest" ∷ codes "a.b" ∷ []) ≡ Ok (Ingest (codes "a.b") default_how)
+command_of-ingest = refl
+
+-- a name that is missing has the place after the last word
+pub command_of-ingest_without_a_name : command_of (codes "ingest" ∷ []) ≡ bad_word Missing 1
+command_of-ingest_without_a_name = refl
+
+pub command_of-ingest_leading_dot : command_of (codes "ingest" ∷ codes ".x" ∷ []) ≡ bad_word NoName 1
+command_of-ingest_leading_dot = refl
+
+-- the name is tried before the words after it
+pub command_of-ingest_two_bad_words : command_of (codes "ingest" ∷ codes ".x" ∷ codes "y" ∷ []) ≡ bad_word NoName 1
+command_of-ingest_two_bad_words = refl
+
+-- no key of `ingest` is there yet
+pub command_of-ingest_with_workers : command_of (codes "ingest" ∷ codes "a" ∷ codes "workers=2" ∷ []) ≡ bad_word NoKey 2
+command_of-ingest_with_workers = refl
+
+pub command_of-list : command_of (codes "list" ∷ []) ≡ Ok (Quiet ListSessions)
+command_of-list = refl
+
+pub command_of-list_a : command_of (codes "list" ∷ codes "a" ∷ []) ≡ bad_word NoKey 1
+command_of-list_a = refl
+
+pub command_of-restore : command_of (codes "restore" ∷ codes "a" ∷ []) ≡ Ok (Quiet (Restore (codes "a")))
+command_of-restore = refl
+
+pub command_of-restore_without_a_name : command_of (codes "restore" ∷ []) ≡ bad_word Missing 1
+command_of-restore_without_a_name = refl
+
+pub command_of-restore_a_path : command_of (codes "restore" ∷ codes "a/b" ∷ []) ≡ bad_word NoName 1
+command_of-restore_a_path = refl
+
+pub command_of-restore_two_names : command_of (codes "restore" ∷ codes "a" ∷ codes "b" ∷ []) ≡ bad_word NoKey 2
+command_of-restore_two_names = refl
+
+-- how an ingest is carried out if no key says so, by its numbers and by the constants of the code
+pub default_how-is : default_how ≡ record { workers = 4; segment = 65536; batch = 1048576; shards = 16 }
+default_how-is = refl
+
+pub default_how-of_the_constants :
+    default_how
+    ≡ record { workers = DEFAULT_WORKERS; segment = DEFAULT_SEGMENT; batch = DEFAULT_BATCH; shards = DEFAULT_SHARDS }
+default_how-of_the_constants = refl
+
 -- the refusal names the first number that is out of its range
 pub one_pass-seventeen_bits :
-    one_pass (codes "plan" ∷ codes "max=1" ∷ codes "bits=17" ∷ []) []
-    ≡ record { outcome = BadParams Bits; text = [] }
+    one_pass (codes "plan" ∷ codes "max=1" ∷ codes "bits=17" ∷ []) None [] ≡ refusal None (BadParams Bits)
 one_pass-seventeen_bits = refl
 
 -- two chunks in one container, after its header
@@ -286,7 +361,7 @@ session_of fresh size recipe = record { name = codes "a"; length = size; fresh =
 -- an ingest of 200 bytes as `a`, of two new chunks in four places: up to and with the length of the
 -- first chunk
 pub spelling_of-ingest_a :
-    take 19 (spelling_of (Ingest (session_of two_chunks 200 (0 ∷ 0 ∷ 0 ∷ 1 ∷ []))))
+    take 19 (spelling_of (IngestEntry (session_of two_chunks 200 (0 ∷ 0 ∷ 0 ∷ 1 ∷ []))))
     ≡ 0x49 ∷ 0 ∷ 0 ∷ 0 ∷ 0x66 ∷ 1 ∷ 0x61 ∷ 0 ∷ 0 ∷ 0 ∷ 0xc8 ∷ 0 ∷ 0 ∷ 0 ∷ 2 ∷ 0 ∷ 0 ∷ 0 ∷ 0x40 ∷ []
 unfolding spelling_of ingest_body
 spelling_of-ingest_a = refl
@@ -305,17 +380,17 @@ recipe_flaw-sum = refl
 -- an entry that names a chunk of a later session
 pub recipe_damage-later_chunk :
     recipe_damage [] 0
-    (sessions_of (Ingest (session_of [] 64 (0 ∷ [])) ∷ Ingest (session_of two_chunks 64 (0 ∷ [])) ∷ []))
+    (sessions_of (IngestEntry (session_of [] 64 (0 ∷ [])) ∷ IngestEntry (session_of two_chunks 64 (0 ∷ [])) ∷ []))
     ≡ Some (Recipe 0 0)
 recipe_damage-later_chunk = refl
 
 -- a dropped session is no longer found, and its places still count
 pub live_session-dropped :
-    live_session (sessions_of (Ingest (session_of two_chunks 72 (0 ∷ 1 ∷ [])) ∷ Drop 0 ∷ [])) (codes "a") ≡ None
+    live_session (sessions_of (IngestEntry (session_of two_chunks 72 (0 ∷ 1 ∷ [])) ∷ Drop 0 ∷ [])) (codes "a") ≡ None
 live_session-dropped = refl
 
 pub places_in-dropped :
-    places_in (sessions_of (Ingest (session_of two_chunks 72 (0 ∷ 1 ∷ [])) ∷ Drop 0 ∷ [])) ≡ 2
+    places_in (sessions_of (IngestEntry (session_of two_chunks 72 (0 ∷ 1 ∷ [])) ∷ Drop 0 ∷ [])) ≡ 2
 places_in-dropped = refl
 
 pub IsValid-small_params : IsValid (small_params 0)

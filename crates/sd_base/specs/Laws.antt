@@ -1,9 +1,11 @@
 -- Laws of the definitions: what follows from them, in the words of the subject.
-use Rattle.std.specs.Prelude.{◌≡◌, ◌≢◌, ◌↔◌, ℕ, ◌+◌, ◌^◌, ◌<◌, ◌≤◌, List, [], ◌∷◌, length, take, drop, slice_index_or, None}
+use Rattle.std.specs.Prelude.{◌≡◌, ◌≢◌, ◌↔◌, ℕ, ◌+◌, ◌^◌, ◌<◌, ◌≤◌, List, [], ◌∷◌, length, take, drop, slice_index_or, None, IfOk}
 use Rattle.std.specs.List.{All, concat}
+use Rattle.sd_base.specs.Commands.{HasSessionName, HasNumbersInRange, HasRawParams}
 use Rattle.sd_base.specs.Names.{IsName, bad_name}
 use Rattle.sd_base.specs.Parameters.{IsValid, bad_parameter}
 use Rattle.sd_base.specs.Cutting.{IsNextCut, next_cut, chunks_of}
+use Rattle.sd_base.specs.Words.{command_of}
 use Rattle.sd_base.specs.declared.raw_params.RawParams.{RawParams}
 
 -- from each position exactly one position is the next cut, and it is `next_cut`
@@ -49,3 +51,15 @@ RangesAreTheRefusals =
 -- bytes are a name of a session if and only if nothing is wrong with them
 abbrev pub NamesAreTheRefusals : Type 0
 NamesAreTheRefusals = (bytes : List ℕ) → IsName bytes ↔ (bad_name bytes ≡ None)
+
+-- the numbers with which a command is carried out are in their ranges, if words name the command
+abbrev pub WordsGiveNumbersInRange : Type 0
+WordsGiveNumbersInRange = (words : List (List ℕ)) → IfOk (command_of words) HasNumbersInRange
+
+-- the name in a command is that of a session, if words name the command
+abbrev pub WordsGiveNames : Type 0
+WordsGiveNames = (words : List (List ℕ)) → IfOk (command_of words) HasSessionName
+
+-- the parameters of a command fit a `RawParams`, if words name the command
+abbrev pub WordsGiveRawParams : Type 0
+WordsGiveRawParams = (words : List (List ℕ)) → IfOk (command_of words) HasRawParams

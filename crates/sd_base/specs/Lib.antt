@@ -34,6 +34,8 @@ pub mod Opening
 pub mod Keys
 -- the words of the command line and the command that they name
 pub mod Words
+-- the fields of commands, and the ranges of their numbers
+pub mod Commands
 -- the texts that commands print
 pub mod Texts
 -- the rows of `list`

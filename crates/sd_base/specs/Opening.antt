@@ -1,5 +1,5 @@
--- The verdict of opening the files of a store: there is none (`HoldNoStore`), what is first found
--- wrong, or what they open as. What is wrong is tried in this order: the head, the records of the
+-- The verdict of opening the files of a store: that there is no store (`HoldNoStore`), what is first
+-- found wrong, or what they open as. What is wrong is tried in this order: the head, the records of the
 -- book, their recipes, the sizes of the containers.
 use Rattle.std.specs.Prelude.{◌≡◌, ◌⊎◌, ℕ, ◌+◌, ◌<◌, ◌≤◌, List, length, map, take, slice_index_or}
 use Rattle.sd_base.specs.Books.{BookState, IsBookDamage, IsReplay, chunks_in}

@@ -1,5 +1,5 @@
--- The rows of `list`: from a state, or from the committed records of a store whose files hold no
--- lawful state.
+-- The rows of `list`: from a state, or from the committed records of a store, whatever its files
+-- hold.
 use Rattle.std.specs.Prelude.{ℕ, ◌+◌, List, [], ◌∷◌, length, if◌then◌else◌}
 use Rattle.sd_base.specs.Books.{BookState}
 use Rattle.sd_base.specs.States.{State, StoredSession, sessions_in, bytes_of_session}

@@ -1,14 +1,18 @@
 -- Laws of states and of the files that hold them, in the words of the subject.
-use Rattle.std.specs.Prelude.{◌≡◌, ℕ, List, [], ◌∷◌, ◌++◌, length, map, slice_index_or, Some}
+use Rattle.std.specs.Prelude.{◌≡◌, ◌≢◌, ℕ, List, [], ◌∷◌, ◌++◌, length, map, slice_index_or, Option, Some, None, IfSome}
 use Rattle.std.specs.List.{All}
 use Rattle.sd_base.specs.Distinct.{is_among, distinct, new_chunks, AreDifferent}
 use Rattle.sd_base.specs.Packing.{packing, container_sizes}
 use Rattle.sd_base.specs.Opening.{OpenAs}
+use Rattle.sd_base.specs.OnePass.{one_pass, pass_of_command, refusal, refusal_of_ingest, success}
 use Rattle.sd_base.specs.Rows.{rows_of_book, rows_of_state}
 use Rattle.sd_base.specs.StateBooks.{book_of_state}
-use Rattle.sd_base.specs.States.{Event, IsLawful, State, placed_chunks, stored_chunks, recipe_of, sessions_in, followed_by_event}
+use Rattle.sd_base.specs.States.{Event, IsLawful, State, placed_chunks, stored_chunks, recipe_of, sessions_in, followed_by_event, with_session}
 use Rattle.sd_base.specs.Stores.{AreClean, GivesNames, HoldState, files_of, record_of, records_of}
 use Rattle.sd_base.specs.declared.file.File.{File}
+use Rattle.sd_base.specs.declared.outcome.Outcome.TheVariants.{Done}
+use Rattle.sd_base.specs.declared.words.Command.TheVariants.{Quiet}
+use Rattle.sd_base.specs.declared.words.Quiet.TheVariants.{Restore}
 
 -- a chunk is among the distinct chunks of a list exactly if it is in the list
 abbrev pub DistinctChunksAreThoseOfTheList : Type 0
@@ -67,3 +71,22 @@ HeldStatesOpen =
     (name_of : List ℕ → List ℕ) (files : File → List ℕ) (state : State) →
     GivesNames name_of → IsLawful state → HoldState name_of files state →
     OpenAs files (record { head = record { params = state.params; generation = state.generation }; book = book_of_state name_of state })
+
+-- a run leads from a lawful state, or from no store, to a lawful state or to no store
+abbrev pub RunsKeepStatesLawful : Type 0
+RunsKeepStatesLawful =
+    (words : List (List ℕ)) (state : Option State) (input : List ℕ) →
+    IfSome state IsLawful → IfSome (one_pass words state input).after IsLawful
+
+-- a run that is not done prints nothing and leaves the state as it is
+abbrev pub RefusalsLeaveTheState : Type 0
+RefusalsLeaveTheState =
+    (words : List (List ℕ)) (state : Option State) (input : List ℕ) → (one_pass words state input).outcome ≢ Done →
+    one_pass words state input ≡ refusal state (one_pass words state input).outcome
+
+-- an input that was taken in is given back
+abbrev pub InputsAreGivenBack : Type 0
+InputsAreGivenBack =
+    (state : State) (name input more : List ℕ) → IsLawful state → refusal_of_ingest state name input ≡ None →
+    let after = with_session state name input in
+    pass_of_command (Quiet (Restore name)) (Some after) more ≡ success (Some after) input

@@ -109,6 +109,18 @@ pub record IsLawful (state : State) : Type 0 where
   pub places : length (placed_chunks state.events) ≤ MAX_PLACES
   pub chunks : length (stored_chunks state) ≤ MAX_CHUNKS
 
+-- the state of a store that was made with these parameters
+abbrev pub new_state : RawParams → State
+new_state params = record { params = params; generation = 0; events = [] }
+
+-- the bytes of session k, or none if there is no such session
+abbrev pub bytes_of_number : State → ℕ → List ℕ
+bytes_of_number state k = unwrap_or (option_map bytes_of_session (slice_get (sessions_in state) k)) []
+
 -- the state after one more event
 abbrev pub followed_by_event : State → Event → State
 followed_by_event state event = record state { events = state.events ++ event ∷ [] }
+
+-- the state after an input was taken in under a name
+abbrev pub with_session : State → List ℕ → List ℕ → State
+with_session state name input = followed_by_event state (ingested name (chunks_of state.params input))

@@ -1,13 +1,15 @@
 -- Worked examples of a store, each computed by the checker: 200 zeros taken in as `a` and once
 -- more as `b`, cut by parameters under which every window of zeros is a match and every chunk
 -- except the last has 64 to 256 bytes.
-use Rattle.std.specs.Prelude.{◌≡◌, ℕ, List, [], ◌∷◌, ◌++◌, length, map, drop, replicate, codes}
+use Rattle.std.specs.Prelude.{◌≡◌, ℕ, List, [], ◌∷◌, ◌++◌, length, map, drop, replicate, codes, Some, None}
 use Rattle.std.specs.Int.Count.{count_leading_zeros}
-use Rattle.std.specs.Fmt.{digits}
+use Rattle.std.specs.Fmt.{decimal, digits}
+use Rattle.std.specs.List.{range_with_len}
 use Rattle.std.proofs.Common.{refl}
 use Rattle.sha2.specs.Sha256.{sha256, digest_bytes, hash_after, compress, rounds, schedule, first_words}
 use Rattle.sd_base.specs.Cutting.{chunks_of, next_cut, cuts_within}
 use Rattle.sd_base.specs.Examples.{small_params}
+use Rattle.sd_base.specs.OnePass.{one_pass, refusal, success}
 use Rattle.sd_base.specs.Records.{ingest_body, spelling_of}
 use Rattle.sd_base.specs.Rows.{rows_of_state}
 use Rattle.sd_base.specs.Settings.{settings_of}
@@ -15,7 +17,10 @@ use Rattle.sd_base.specs.States.{ingested, dropped, State, stored_chunks, live_s
 use Rattle.sd_base.specs.Stores.{records_of, files_of}
 use Rattle.sd_base.specs.Texts.{ingested_text, list_text, ready_text}
 use Rattle.sd_base.specs.declared.limits.TheConstants.{COMMIT_BYTE, MAX_GENERATION, OPEN_HEAD_LEN, SETTINGS_LEN}
+use Rattle.sd_base.specs.declared.outcome.Outcome.TheVariants.{BadWords, BadParams, NoStore, StoreThere, NameTaken, NoSession, TooManySessions}
+use Rattle.sd_base.specs.declared.params.BadParams.TheVariants.{Max}
 use Rattle.sd_base.specs.declared.record.Record.TheVariants.{Ingest}
+use Rattle.sd_base.specs.declared.words.BadKind.TheVariants.{Name as NoName}
 use Rattle.sd_base.specs.declared.file.File.TheVariants.{Head, Seal, Book, Container}
 
 abbrev pub zeros_cut : List (List ℕ)
@@ -110,3 +115,113 @@ OPEN_HEAD_LEN-is = refl
 
 pub COMMIT_BYTE-is : COMMIT_BYTE ≡ 0x53
 COMMIT_BYTE-is = refl
+
+-- the run that makes the store
+abbrev pub init_words : List (List ℕ)
+init_words =
+    codes "init" ∷ codes "polynomial=8000000000000001" ∷ codes "bits=13" ∷ codes "target=0" ∷ codes "min=64"
+    ∷ codes "max=256" ∷ []
+
+abbrev pub no_sessions : State
+no_sessions = record { params = small_params 0; generation = 0; events = [] }
+
+pub one_pass-init : one_pass init_words None [] ≡ success (Some no_sessions) (codes "ready" ++ 10 ∷ [])
+one_pass-init = refl
+
+-- if there is a store, it stays as it is
+pub one_pass-init_again : one_pass init_words (Some twice) [] ≡ refusal (Some twice) StoreThere
+one_pass-init_again = refl
+
+-- bad parameters are refused before the store is looked at
+pub one_pass-init_bad_parameters_first :
+    one_pass (codes "init" ∷ codes "min=4096" ∷ codes "max=2048" ∷ []) (Some twice) [] ≡ refusal (Some twice) (BadParams Max)
+one_pass-init_bad_parameters_first = refl
+
+-- 200 zeros are taken in as `a`: of four chunks two are new
+abbrev pub once : State
+once = record { params = small_params 0; generation = 0; events = ingested (codes "a") zeros_cut ∷ [] }
+
+pub one_pass-ingest_a :
+    one_pass (codes "ingest" ∷ codes "a" ∷ []) (Some no_sessions) (replicate 200 0)
+    ≡ success (Some once) (codes "ingested a 200 bytes 4 places 2 new" ++ 10 ∷ [])
+unfolding count_leading_zeros next_cut cuts_within digits
+one_pass-ingest_a = refl
+
+-- and once more as `b`: no chunk is new
+pub one_pass-ingest_b :
+    one_pass (codes "ingest" ∷ codes "b" ∷ []) (Some once) (replicate 200 0)
+    ≡ success (Some twice) (codes "ingested b 200 bytes 4 places 0 new" ++ 10 ∷ [])
+unfolding count_leading_zeros next_cut cuts_within digits
+one_pass-ingest_b = refl
+
+pub one_pass-list :
+    one_pass (codes "list" ∷ []) (Some twice) []
+    ≡ success (Some twice) (codes "0 a 200 4" ++ 10 ∷ codes "1 b 200 4" ++ 10 ∷ [])
+unfolding digits
+one_pass-list = refl
+
+pub one_pass-restore : one_pass (codes "restore" ∷ codes "b" ∷ []) (Some twice) [] ≡ success (Some twice) (replicate 200 0)
+one_pass-restore = refl
+
+-- a name that is taken is refused, whatever the input
+pub one_pass-name_taken :
+    (input : List ℕ) → one_pass (codes "ingest" ∷ codes "b" ∷ []) (Some twice) input ≡ refusal (Some twice) NameTaken
+one_pass-name_taken input = refl
+
+-- the name of a dropped session is free, and it names no session
+pub one_pass-ingest_after_a_drop :
+    (one_pass (codes "ingest" ∷ codes "a" ∷ []) (Some once_dropped) (replicate 200 0)).text
+    ≡ codes "ingested a 200 bytes 4 places 0 new" ++ 10 ∷ []
+unfolding count_leading_zeros next_cut cuts_within digits
+one_pass-ingest_after_a_drop = refl
+
+pub one_pass-restore_after_a_drop :
+    one_pass (codes "restore" ∷ codes "a" ∷ []) (Some once_dropped) [] ≡ refusal (Some once_dropped) NoSession
+one_pass-restore_after_a_drop = refl
+
+-- an empty input is a session with no chunk
+abbrev pub one_empty : State
+one_empty = record { params = small_params 0; generation = 0; events = ingested (codes "e") [] ∷ [] }
+
+pub one_pass-ingest_nothing :
+    one_pass (codes "ingest" ∷ codes "e" ∷ []) (Some no_sessions) []
+    ≡ success (Some one_empty) (codes "ingested e 0 bytes 0 places 0 new" ++ 10 ∷ [])
+unfolding cuts_within digits
+one_pass-ingest_nothing = refl
+
+pub one_pass-list_empty : one_pass (codes "list" ∷ []) (Some one_empty) [] ≡ success (Some one_empty) (codes "0 e 0 0" ++ 10 ∷ [])
+unfolding digits
+one_pass-list_empty = refl
+
+pub one_pass-restore_empty : one_pass (codes "restore" ∷ codes "e" ∷ []) (Some one_empty) [] ≡ success (Some one_empty) []
+one_pass-restore_empty = refl
+
+-- without a store, these commands are refused, whatever the input
+pub one_pass-ingest_in_no_store :
+    (input : List ℕ) → one_pass (codes "ingest" ∷ codes "a" ∷ []) None input ≡ refusal None NoStore
+one_pass-ingest_in_no_store input = refl
+
+pub one_pass-list_in_no_store : one_pass (codes "list" ∷ []) None [] ≡ refusal None NoStore
+one_pass-list_in_no_store = refl
+
+pub one_pass-restore_from_no_store : one_pass (codes "restore" ∷ codes "a" ∷ []) None [] ≡ refusal None NoStore
+one_pass-restore_from_no_store = refl
+
+-- bad words are refused before the store is looked at
+pub one_pass-bad_name :
+    one_pass (codes "ingest" ∷ codes ".x" ∷ []) None [] ≡ refusal None (BadWords (record { kind = NoName; place = 1 }))
+one_pass-bad_name = refl
+
+-- a store with 4,096 sessions, which are as many as it may have, takes in no more, whatever the
+-- input
+abbrev pub full : State
+full = record {
+  params = small_params 0;
+  generation = 0;
+  events = map (λ k. ingested (codes "s" ++ decimal k) []) (range_with_len 0 4096);
+}
+
+pub one_pass-ingest_in_full :
+    (input : List ℕ) → one_pass (codes "ingest" ∷ codes "b" ∷ []) (Some full) input ≡ refusal (Some full) TooManySessions
+unfolding digits
+one_pass-ingest_in_full input = refl

@@ -3,9 +3,10 @@
 -- 180-4) in hexadecimal.
 use Rattle.std.specs.Prelude.{ℕ, ◌+◌, List, [], ◌∷◌, ◌++◌, length, codes}
 use Rattle.std.specs.Fmt.{decimal}
-use Rattle.std.specs.List.{flat_map}
+use Rattle.std.specs.List.{concat, flat_map}
 use Rattle.sha2.specs.Sha256.{sha256}
 use Rattle.hex.specs.Hex.{encode_lower}
+use Rattle.sd_base.specs.Distinct.{new_chunks}
 
 -- the name of a chunk as it is printed: 64 lower-case hexadecimal digits
 abbrev pub printed_name : List ℕ → List ℕ
@@ -35,6 +36,11 @@ abbrev pub ingested_text : List ℕ → ℕ → ℕ → ℕ → List ℕ
 ingested_text name bytes places fresh =
     codes "ingested " ++ name ++ 32 ∷ [] ++ decimal bytes ++ codes " bytes " ++ decimal places ++ codes " places "
     ++ decimal fresh ++ codes " new" ++ 10 ∷ []
+
+-- the text of an ingest of these chunks, after those of all earlier ingests
+abbrev pub ingest_text : List (List ℕ) → List ℕ → List (List ℕ) → List ℕ
+ingest_text before name chunks =
+    ingested_text name (length (concat chunks)) (length chunks) (length (new_chunks before chunks))
 
 -- a session as `list` shows it: its number, its name, the number of its bytes and of its places
 pub record SessionRow : Type 0 where

@@ -1,14 +1,16 @@
 -- The words of the command line, as lists of bytes, and the command that they name.
-use Rattle.std.specs.Prelude.{ℕ, ◌-◌, ◌^◌, List, [], ◌∷◌, codes, Option, Some, None, Result, Ok, Err, if◌then◌else◌}
+use Rattle.std.specs.Prelude.{ℕ, ◌-◌, ◌^◌, List, [], ◌∷◌, codes, Option, Some, None, is_some, Result, Ok, Err, if◌then◌else◌}
 use Rattle.std.specs.Str.{bytes_eq}
 use Rattle.sd_base.specs.Keys.{Key, decimal_key, first_bad_word, value_or_default}
+use Rattle.sd_base.specs.Names.{bad_name}
+use Rattle.sd_base.specs.declared.how.How.{How}
 use Rattle.sd_base.specs.declared.raw_params.RawParams.{RawParams}
 use Rattle.sd_base.specs.declared.words.BadKind.{BadKind}
-use Rattle.sd_base.specs.declared.words.BadKind.TheVariants.{Missing, Command as NoCommand}
+use Rattle.sd_base.specs.declared.words.BadKind.TheVariants.{Missing, Command as NoCommand, Name as NoName}
 use Rattle.sd_base.specs.declared.words.BadWords.{BadWords}
-use Rattle.sd_base.specs.declared.words.Quiet.TheVariants.{Plan}
+use Rattle.sd_base.specs.declared.words.Quiet.TheVariants.{Plan, Init, List as ListSessions, Restore}
 use Rattle.sd_base.specs.declared.words.Command.{Command}
-use Rattle.sd_base.specs.declared.words.Command.TheVariants.{Quiet}
+use Rattle.sd_base.specs.declared.words.Command.TheVariants.{Quiet, Ingest}
 
 -- The parameters of cutting if none are given. The number of bits, the minimum and the maximum are
 -- those of LBFS (SOSP 2001, section 3.1); the polynomial and the target are this project's own.
@@ -21,6 +23,10 @@ default_workers = 4
 
 abbrev pub default_segment : ℕ
 default_segment = 65536
+
+-- how an ingest is carried out, which no word sets yet
+abbrev pub default_how : How
+default_how = record { workers = default_workers; segment = default_segment; batch = 1048576; shards = 16 }
 
 -- `plan` if no key is given
 abbrev pub default_plan : Command
@@ -69,7 +75,37 @@ abbrev pub plan_of : List (List ℕ) → Result Command BadWords
 plan_of words = unless_bad (first_bad_word params_keys [] 1 words)
     (Quiet (Plan (params_of words) default_workers default_segment))
 
+-- the words after `init`
+abbrev pub init_of : List (List ℕ) → Result Command BadWords
+init_of words = unless_bad (first_bad_word params_keys [] 1 words) (Quiet (Init (params_of words)))
+
+-- the words after a command that takes the name of a session: the name, and then words that set
+-- keys. The command is that of the name and of these words.
+abbrev pub session_command_of : List Key → (List ℕ → List (List ℕ) → Command) → List (List ℕ) → Result Command BadWords
+session_command_of keys command [] = bad_word Missing 1
+session_command_of keys command (name ∷ words) =
+    if is_some (bad_name name) then bad_word NoName 1
+    else unless_bad (first_bad_word keys [] 2 words) (command name words)
+
+-- the words after `ingest`
+abbrev pub ingest_of : List (List ℕ) → Result Command BadWords
+ingest_of words = session_command_of [] (λ name more. Ingest name default_how) words
+
+-- the words after `list`
+abbrev pub list_of : List (List ℕ) → Result Command BadWords
+list_of words = unless_bad (first_bad_word [] [] 1 words) (Quiet ListSessions)
+
+-- the words after `restore`
+abbrev pub restore_of : List (List ℕ) → Result Command BadWords
+restore_of words = session_command_of [] (λ name more. Quiet (Restore name)) words
+
 -- the command that the words name, or the first word that fails
 abbrev pub command_of : List (List ℕ) → Result Command BadWords
 command_of [] = bad_word Missing 0
-command_of (word ∷ words) = if bytes_eq word (codes "plan") then plan_of words else bad_word NoCommand 0
+command_of (word ∷ words) =
+    if bytes_eq word (codes "plan") then plan_of words
+    else if bytes_eq word (codes "init") then init_of words
+    else if bytes_eq word (codes "ingest") then ingest_of words
+    else if bytes_eq word (codes "list") then list_of words
+    else if bytes_eq word (codes "restore") then restore_of words
+    else bad_word NoCommand 0

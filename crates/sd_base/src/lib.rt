@@ -14,6 +14,7 @@
 
 mod damage;
 mod file;
+mod how;
 mod laws;
 mod limits;
 mod name;
@@ -27,15 +28,18 @@ mod words;
 
 pub use damage::Damage;
 pub use file::File;
+pub use how::How;
 pub use laws::{
     chunks_cover_the_input, chunks_go_on_in_the_tail, names_are_the_refusals,
-    next_cut_is_the_least, ranges_are_the_refusals,
+    next_cut_is_the_least, ranges_are_the_refusals, words_give_fields_in_range,
 };
 pub use limits::{
-    COMMIT_BYTE, CONTAINER_HEADER, DEFAULT_BITS, DEFAULT_MAX, DEFAULT_MIN, DEFAULT_POLYNOMIAL,
-    DEFAULT_SEGMENT, DEFAULT_TARGET, DEFAULT_WORKERS, MAX_BITS, MAX_CHUNK_LEN, MAX_CHUNKS,
-    MAX_CONTAINER, MAX_GENERATION, MAX_INPUT, MAX_NAME, MAX_PLACES, MAX_SESSIONS, METHOD_RABIN,
-    MIN_CHUNK_LEN, MIN_POLYNOMIAL, OPEN_HEAD_LEN, SETTINGS_LEN, SETTINGS_VERSION, WINDOW,
+    COMMIT_BYTE, CONTAINER_HEADER, DEFAULT_BATCH, DEFAULT_BITS, DEFAULT_MAX, DEFAULT_MIN,
+    DEFAULT_POLYNOMIAL, DEFAULT_SEGMENT, DEFAULT_SHARDS, DEFAULT_TARGET, DEFAULT_WORKERS,
+    MAX_BATCH, MAX_BITS, MAX_CHUNK_LEN, MAX_CHUNKS, MAX_CONTAINER, MAX_GENERATION, MAX_INPUT,
+    MAX_NAME, MAX_PLACES, MAX_SEGMENT, MAX_SESSIONS, MAX_SHARDS, MAX_WORKERS, METHOD_RABIN,
+    MIN_BATCH, MIN_CHUNK_LEN, MIN_POLYNOMIAL, OPEN_HEAD_LEN, SETTINGS_LEN, SETTINGS_VERSION,
+    WINDOW,
 };
 pub use name::{BadName, Name};
 pub use out_of_memory::OutOfMemory;
@@ -48,6 +52,7 @@ pub use record::{
 };
 pub use state_laws::{
     container_sizes_are_by_lengths, distinct_chunks_are_each_once, each_state_has_its_files,
-    held_states_open, recipes_name_their_chunks, stores_only_grow,
+    held_states_open, inputs_are_given_back, recipes_name_their_chunks, runs_keep_states_lawful,
+    stores_only_grow,
 };
 pub use words::{BadKind, BadWords, Command, Quiet};

@@ -59,6 +59,21 @@ pub const COMMIT_BYTE: u8 = 0x53;
 /// Bytes of the longest name of a session: its length is one byte of a record.
 pub const MAX_NAME: usize = 64;
 
+/// The most workers.
+pub const MAX_WORKERS: u32 = 64;
+
+/// Bytes of the longest segment: that of the longest input.
+pub const MAX_SEGMENT: u32 = MAX_INPUT;
+
+/// Bytes of the shortest batch.
+pub const MIN_BATCH: u32 = 65_536;
+
+/// Bytes of the longest batch.
+pub const MAX_BATCH: u32 = 16_777_216;
+
+/// The most shards.
+pub const MAX_SHARDS: u32 = 256;
+
 /// The polynomial that is used if none is given: of degree 53, one bit a coefficient.
 pub const DEFAULT_POLYNOMIAL: u64 = 0x3D_A335_8B4D_C173;
 
@@ -80,6 +95,12 @@ pub const DEFAULT_WORKERS: u32 = 4;
 /// Bytes of a segment if none is given.
 pub const DEFAULT_SEGMENT: u32 = 65_536;
 
+/// Bytes of a batch if none is given.
+pub const DEFAULT_BATCH: u32 = 1_048_576;
+
+/// The number of shards if none is given.
+pub const DEFAULT_SHARDS: u32 = 16;
+
 const _: () = prove!(WINDOW <= MIN_CHUNK_LEN);
 
 const _: () = prove!(MIN_POLYNOMIAL == 1 << MAX_BITS);
@@ -91,5 +112,11 @@ const _: () = prove!(DEFAULT_BITS <= MAX_BITS && DEFAULT_TARGET < 1 << DEFAULT_B
 const _: () = prove!(
     MIN_CHUNK_LEN <= DEFAULT_MIN && DEFAULT_MIN <= DEFAULT_MAX && DEFAULT_MAX <= MAX_CHUNK_LEN
 );
+
+const _: () = prove!(DEFAULT_WORKERS <= MAX_WORKERS && DEFAULT_SEGMENT <= MAX_SEGMENT);
+
+const _: () = prove!(MIN_BATCH <= DEFAULT_BATCH && DEFAULT_BATCH <= MAX_BATCH);
+
+const _: () = prove!(DEFAULT_SHARDS <= MAX_SHARDS);
 
 const _: () = prove!(CONTAINER_HEADER + MAX_CHUNK_LEN <= MAX_CONTAINER);

@@ -1,7 +1,7 @@
 //! Laws of states and of the files that hold them. Each is the contract of a function that does
 //! nothing.
 
-ghost use Rattle.sd_base.specs.StateLaws.{DistinctChunksAreThoseOfTheList, DistinctChunksDiffer, DistinctChunksOnlyGrow, StoredChunksOnlyGrow, RecordsOnlyGrow, RecipesNameTheirChunks, SizesFollowFromLengths, EachStateHasItsFiles, HeldStatesOpen, RowsAreThoseOfTheBook};
+ghost use Rattle.sd_base.specs.StateLaws.{DistinctChunksAreThoseOfTheList, DistinctChunksDiffer, DistinctChunksOnlyGrow, StoredChunksOnlyGrow, RecordsOnlyGrow, RecipesNameTheirChunks, SizesFollowFromLengths, EachStateHasItsFiles, HeldStatesOpen, RowsAreThoseOfTheBook, RunsKeepStatesLawful, RefusalsLeaveTheState, InputsAreGivenBack};
 
 /// The distinct chunks of a list are those of the list, each once, in order of first occurrence.
 pub fn distinct_chunks_are_each_once()
@@ -37,4 +37,16 @@ pub fn each_state_has_its_files()
 pub fn held_states_open()
     ensures opened { HeldStatesOpen }
     ensures rows { RowsAreThoseOfTheBook }
+{}
+
+/// A run leads from a lawful state to a lawful state. If it is not done, it prints nothing and
+/// leaves the state as it is.
+pub fn runs_keep_states_lawful()
+    ensures lawful { RunsKeepStatesLawful }
+    ensures refused { RefusalsLeaveTheState }
+{}
+
+/// An input that was taken in under a name is what `restore` of this name gives back.
+pub fn inputs_are_given_back()
+    ensures { InputsAreGivenBack }
 {}

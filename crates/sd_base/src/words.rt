@@ -1,3 +1,5 @@
+use crate::how::How;
+use crate::name::Name;
 use crate::raw_params::RawParams;
 
 /// What is wrong with a word.
@@ -29,11 +31,21 @@ pub struct BadWords {
 /// A command that waits for nobody.
 #[derive(Clone, Copy, Debug, PartialEq, Eq)]
 pub enum Quiet {
-    /// Cuts standard input and prints its chunks.
+    /// Cuts the input and prints its chunks.
     Plan {
         raw: RawParams,
         workers: u32,
         segment: u32,
+    },
+    /// Makes a store whose sessions are cut by these parameters.
+    Init {
+        raw: RawParams,
+    },
+    /// Prints the live sessions of the store.
+    List,
+    /// Writes the bytes of the live session of this name.
+    Restore {
+        name: Name,
     },
 }
 
@@ -41,4 +53,6 @@ pub enum Quiet {
 #[derive(Clone, Copy, Debug, PartialEq, Eq)]
 pub enum Command {
     Quiet(Quiet),
+    /// Takes the input into the store as a session of this name.
+    Ingest { name: Name, how: How },
 }

@@ -1,0 +1,119 @@
+-- What words give a command is in its range.
+use Rattle.std.proofs.Common.{◌≡◌, inl, inr, ℕ, ◌≤◌, Bool, true, false, List, [], ◌∷◌, codes, Option, Some, None, IfSome, Result, IfOk, refl, lit≤, arith}
+use Rattle.std.specs.Prelude.{◌&&◌, nat_le, is_some, unwrap_or, if◌then◌else◌}
+use Rattle.std.specs.List.{find}
+use Rattle.std.specs.Option.{option_and_then}
+use Rattle.std.specs.Str.{bytes_eq}
+use Rattle.std.specs.Str.Parse.{digits_value}
+use Rattle.std.proofs.lemmas.Bool.{cases_Bool, leb-true, and_parts}
+use Rattle.sd_base.specs.Commands.{AreRawParams, HasSessionName, HasNumbersInRange, HasRawParams, IsHow}
+use Rattle.sd_base.specs.Keys.{Key, first_bad_word, is_spelled, number_of, sets_key, value_of, value_or_default}
+use Rattle.sd_base.specs.Names.{IsName, bad_name}
+use Rattle.sd_base.specs.Words.{command_of, default_how, default_params, default_segment, default_workers, params_keys, params_of, session_command_of, unless_bad, polynomial_key, bits_key, target_key, min_key, max_key}
+use Rattle.sd_base.specs.declared.words.BadWords.{BadWords}
+use Rattle.sd_base.specs.declared.words.Command.{Command}
+use Rattle.sd_base.specs.declared.words.Command.TheVariants.{Quiet, Ingest}
+use Rattle.sd_base.specs.declared.words.Quiet.TheVariants.{Plan, Init, List as ListSessions, Restore}
+use Rattle.sd_base.proofs.Names.{IsName_is_no_refusal}
+
+-- ---- values of keys
+
+-- a value that a text spells is at most the greatest of its key
+number_of-most : (key : Key) (text : List ℕ) → IfSome (number_of key text) (λ n. n ≤ key.greatest)
+number_of-most key text =
+    let n = digits_value key.base text in
+    elim (cases_Bool (is_spelled key text && nat_le key.least n && nat_le n key.greatest)) [
+      | inl reads ↦ rw reads (leb-true _ _ (and_parts _ _ reads).1)
+      | inr other ↦ rw other tt
+    ]
+
+or_default : (P : ℕ → Type 0) (read : Option ℕ) (default : ℕ) → IfSome read P → P default → P (unwrap_or read default)
+or_default P None default holds otherwise = otherwise
+or_default P (Some n) default holds otherwise = holds
+
+found-most : (key : Key) (default : ℕ) (found : Option (List ℕ)) → default ≤ key.greatest →
+    unwrap_or (option_and_then (λ word. number_of key (value_of word)) found) default ≤ key.greatest
+found-most key default None within = within
+found-most key default (Some word) within =
+    or_default (λ n. n ≤ key.greatest) (number_of key (value_of word)) default (number_of-most key (value_of word)) within
+
+-- what words set a key to is at most the greatest of the key
+value-most : (words : List (List ℕ)) (key : Key) (default : ℕ) → default ≤ key.greatest →
+    value_or_default words key default ≤ key.greatest
+value-most words key default within = found-most key default (find (sets_key key.name) words) within
+
+pub params-fit : (words : List (List ℕ)) → AreRawParams (params_of words)
+params-fit words = record {
+  polynomial = omega (arith, value-most words polynomial_key default_params.polynomial (lit≤ tt));
+  bits = omega (arith, value-most words bits_key default_params.bits (lit≤ tt));
+  target = omega (arith, value-most words target_key default_params.target (lit≤ tt));
+  min = omega (arith, value-most words min_key default_params.min (lit≤ tt));
+  max = omega (arith, value-most words max_key default_params.max (lit≤ tt));
+}
+
+-- ---- what holds of each command that words name
+
+none-from_test : {A : Type 0} (found : Option A) → is_some found ≡ false → found ≡ None
+none-from_test None test = refl
+none-from_test (Some x) test = absurd cc
+
+module _ (P : Command → Type 0) where
+  either : (test : Bool) (x y : Result Command BadWords) → IfOk x P → IfOk y P → IfOk (if test then x else y) P
+  either true x y holds other = holds
+  either false x y other holds = holds
+
+  unless_bad-keeps : (bad : Option BadWords) (command : Command) → P command → IfOk (unless_bad bad command) P
+  unless_bad-keeps None command holds = holds
+  unless_bad-keeps (Some bad) command holds = tt
+
+  -- a command with the name of a session
+  session_command-keeps : (keys : List Key) (command : List ℕ → List (List ℕ) → Command) (words : List (List ℕ)) →
+      ((name : List ℕ) (more : List (List ℕ)) → IsName name → P (command name more)) →
+      IfOk (session_command_of keys command words) P
+  session_command-keeps keys command [] holds = tt
+  session_command-keeps keys command (name ∷ words) holds = elim (cases_Bool (is_some (bad_name name))) [
+    | inl bad ↦ rw bad tt
+    | inr good ↦
+        let is_name : IsName name = (IsName_is_no_refusal name).1 (none-from_test (bad_name name) good) in
+        rw good (unless_bad-keeps (first_bad_word keys [] 2 words) (command name words) (holds name words is_name))
+  ]
+
+  -- what holds of the command of each kind of words holds of the command of all words
+  command-keeps :
+      ((words : List (List ℕ)) → P (Quiet (Plan (params_of words) default_workers default_segment))) →
+      ((words : List (List ℕ)) → P (Quiet (Init (params_of words)))) →
+      ((name : List ℕ) → IsName name → P (Ingest name default_how)) → P (Quiet ListSessions) →
+      ((name : List ℕ) → IsName name → P (Quiet (Restore name))) → (words : List (List ℕ)) → IfOk (command_of words) P
+  command-keeps plan init ingest list restore [] = tt
+  command-keeps plan init ingest list restore (word ∷ words) =
+      let bad_parameter = first_bad_word params_keys [] 1 words in
+      let planned = Quiet (Plan (params_of words) default_workers default_segment) in
+      either (bytes_eq word (codes "plan")) _ _ (unless_bad-keeps bad_parameter planned (plan words))
+      (either (bytes_eq word (codes "init")) _ _
+      (unless_bad-keeps bad_parameter (Quiet (Init (params_of words))) (init words))
+      (either (bytes_eq word (codes "ingest")) _ _
+      (session_command-keeps [] (λ name more. Ingest name default_how) words (λ name more. ingest name))
+      (either (bytes_eq word (codes "list")) _ _
+      (unless_bad-keeps (first_bad_word [] [] 1 words) (Quiet ListSessions) list)
+      (either (bytes_eq word (codes "restore")) _ _
+      (session_command-keeps [] (λ name more. Quiet (Restore name)) words (λ name more. restore name)) tt))))
+
+default_how-in_range : IsHow default_how
+default_how-in_range = record {
+  workers = (lit≤ tt, lit≤ tt);
+  segment = (lit≤ tt, lit≤ tt);
+  batch = (lit≤ tt, lit≤ tt);
+  shards = (lit≤ tt, lit≤ tt);
+}
+
+pub numbers_in_range : (words : List (List ℕ)) → IfOk (command_of words) HasNumbersInRange
+numbers_in_range =
+    command-keeps HasNumbersInRange (λ words. (default_how-in_range.workers, default_how-in_range.segment)) (λ words. tt)
+    (λ name is_name. default_how-in_range) tt (λ name is_name. tt)
+
+pub names_of_sessions : (words : List (List ℕ)) → IfOk (command_of words) HasSessionName
+names_of_sessions =
+    command-keeps HasSessionName (λ words. tt) (λ words. tt) (λ name is_name. is_name) tt (λ name is_name. is_name)
+
+pub raw_params : (words : List (List ℕ)) → IfOk (command_of words) HasRawParams
+raw_params = command-keeps HasRawParams params-fit params-fit (λ name is_name. tt) tt (λ name is_name. tt)
