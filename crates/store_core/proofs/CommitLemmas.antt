@@ -28,20 +28,11 @@ use Rattle.store_core.specs.Recipes.{IsInOrder}
 use Rattle.store_core.specs.StoreStates.{StandsFor, StoreState, chunks_of_store}
 use Rattle.store_core.specs.declared.fault.StoreFault.{StoreFault}
 use Rattle.store_core.specs.declared.fault.StoreFault.TheVariants.{NameTaken, TooManyPlaces, TooManySessions}
+use Rattle.store_core.proofs.StoreLemmas.{held-is}
 use Rattle.store_core.proofs.IngestLemmas.{book-chunks, book-live_session, book-place_count, book-session_count, ingest-book, ingest-lawful, ingest-records, ingest-stored_chunks, recipe-bytes}
 
 abbrev pub Bytes : Type 0
 Bytes = File → List ℕ
-
--- the bytes that are known, or these
-bytes_or : List ℕ → Option (List ℕ) → List ℕ
-bytes_or other (Some bytes) = bytes
-bytes_or other None = other
-
--- if what is known of two files is the same, then their bytes are
-bytes-are : {x y : List ℕ} → ◌≡◌ {A = Option (List ℕ)} (Some x) (Some y) → x ≡ y
-unfolding bytes_or
-bytes-are {x = x} same = ap (bytes_or x) same
 
 -- ---- a commit that ended before its seal
 
@@ -57,10 +48,10 @@ pub nothing-held : (name_of : List ℕ → List ℕ) (before after : Bytes) (sta
 nothing-held name_of before after state held done =
     let old = book_of (records_of name_of state) in
     let had = before (Book state.generation) in
-    let head : after Head ≡ before Head = bytes-are (done.others Head (λ is. absurd cc)) in
+    let head : after Head ≡ before Head = held-is (done.others Head (λ is. absurd cc)) in
     let seal : after (Seal state.generation) ≡ before (Seal state.generation) =
-    bytes-are (done.others (Seal state.generation) (λ is. absurd cc)) in
-    let book : after (Book state.generation) ≡ take (length old) had ++ done.book.0 = bytes-are done.book.1 in
+    held-is (done.others (Seal state.generation) (λ is. absurd cc)) in
+    let book : after (Book state.generation) ≡ take (length old) had ++ done.book.0 = held-is done.book.1 in
     let front = front-is old held.book.0 had held.book.1 in
     record {
       settings = ap (take SETTINGS_LEN) head ∙ held.settings;
@@ -69,7 +60,7 @@ nothing-held name_of before after state held done =
       book = (done.book.0, book ∙ ap (λ bytes. bytes ++ done.book.0) front);
       containers = λ k within.
           let there = held.containers k within in
-          (there.0, bytes-are (done.others (Container state.generation k) (λ is. absurd cc)) ∙ there.1);
+          (there.0, held-is (done.others (Container state.generation k) (λ is. absurd cc)) ∙ there.1);
     }
 
 -- ---- what a store says of its state
@@ -178,7 +169,7 @@ module _ (name_of : List ℕ → List ℕ) (store : StoreState) (before after : 
       (spelling_of (Ingest (entry_of name_of offered recipe name size))) (Some before) (Some after)
 
   -- the stored chunks are the old ones and those offered
-  committed-chunks :
+  pub committed-chunks :
       stored_chunks (committed_state state offered name recipe) ≡ stored_chunks state ++ offered
   committed-chunks =
       let chunks = recipe_chunks state offered recipe in
@@ -203,30 +194,38 @@ module _ (name_of : List ℕ → List ℕ) (store : StoreState) (before after : 
   committed-containers done k within =
       let there = stands.begin k within in (
         there.0,
-        bytes-are (done.others (Container state.generation k) (λ is. absurd cc) (λ is. absurd cc)) ∙ there.1,
+        held-is (done.others (Container state.generation k) (λ is. absurd cc) (λ is. absurd cc)) ∙ there.1,
       )
+
+  -- the book is that of the new state, and no more
+  pub committed-book_file : CommitsSession →
+      after (Book state.generation) ≡ book_of (records_of name_of (committed_state state offered name recipe))
+  committed-book_file done =
+      let old = book_of (records_of name_of state) in
+      let spelled = spelling_of (Ingest (entry_of name_of offered recipe name size)) in
+      let book : after (Book state.generation) ≡ take (length old) (before (Book state.generation)) ++ spelled =
+      held-is done.book in
+      book
+      ∙ ap (λ bytes. bytes ++ spelled)
+      (front-is old stands.held.book.0 (before (Book state.generation)) stands.held.book.1)
+      ∙ sym committed-book
 
   -- the files hold the new state
   pub record-held : CommitsSession → HoldState name_of after (committed_state state offered name recipe)
   record-held done =
-      let old = book_of (records_of name_of state) in
       let new = book_of (records_of name_of (committed_state state offered name recipe)) in
-      let spelled = spelling_of (Ingest (entry_of name_of offered recipe name size)) in
       let event = ingested name (recipe_chunks state offered recipe) in
       let held = stands.held in
-      let had = before (Book state.generation) in
       let head : after Head ≡ before Head =
-      bytes-are (done.others Head (λ is. absurd cc) (λ is. absurd cc)) in
+      held-is (done.others Head (λ is. absurd cc) (λ is. absurd cc)) in
       let seal : after (Seal state.generation) ≡ before (Seal state.generation) ++ COMMIT_BYTE ∷ [] =
-      bytes-are done.seal in
-      let book : after (Book state.generation) ≡ take (length old) had ++ spelled = bytes-are done.book in
-      let front = front-is old held.book.0 had held.book.1 in
+      held-is done.seal in
       record {
         settings = ap (take SETTINGS_LEN) head ∙ held.settings;
         generation = ap length head ∙ held.generation;
         seal = ap length seal ∙ length-append (before (Seal state.generation)) (COMMIT_BYTE ∷ [])
             ∙ ap (λ n. n + 1) held.seal ∙ sym (length-append state.events (event ∷ []));
-        book = ([], book ∙ ap (λ bytes. bytes ++ spelled) front ∙ sym committed-book ∙ sym (append-nil new));
+        book = ([], committed-book_file done ∙ sym (append-nil new));
         containers = subst (λ chunks. (k : ℕ) → k < length (packing chunks) →
             IsFrontOf (slice_index_or (packing chunks) k []) (after (Container state.generation k)))
             (sym committed-chunks) (committed-containers done);
@@ -285,7 +284,7 @@ module _ (name_of : List ℕ → List ℕ) (store : StoreState) (before after : 
     (offered : List (List ℕ)) (stands : StandsFor name_of store before state offered)
     (recipe name : List ℕ) (size : ℕ) where
   -- the recipe names the state's chunks in order
-  in-order : IsInOrder (length (chunks_in store.opened.book.sessions)) recipe (length (chunks_of_store store)) →
+  pub in-order : IsInOrder (length (chunks_in store.opened.book.sessions)) recipe (length (chunks_of_store store)) →
       IsInOrder (length (stored_chunks state)) recipe (length (stored_chunks state ++ offered))
   in-order order =
       let stored = stored_chunks state in
@@ -298,7 +297,7 @@ module _ (name_of : List ℕ → List ℕ) (store : StoreState) (before after : 
       ∙ length-map (stored ++ offered) (named name_of)) order)
 
   -- the files change as its state says
-  ingest-done : CommitsIngest store (session_record store name size recipe) (Some before) (Some after) →
+  pub ingest-done : CommitsIngest store (session_record store name size recipe) (Some before) (Some after) →
       CommitsRecord state.generation (book_of_state name_of state).used
       (spelling_of (Ingest (entry_of name_of offered recipe name size))) (Some before) (Some after)
   ingest-done done =

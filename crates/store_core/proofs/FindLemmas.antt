@@ -9,7 +9,7 @@ use Rattle.std.proofs.lemmas.List.Sums.{fails_before_first}
 use Rattle.std.proofs.lemmas.Slice.Eq.{bytes_eq-Decides}
 use Rattle.sd_base.specs.declared.file.File.{File}
 use Rattle.sd_base.specs.declared.record.NewChunk.{NewChunk}
-use Rattle.store_core.specs.Offers.{IsIntact, IsNewBelow, IsSame}
+use Rattle.store_core.specs.Offers.{IsIntactIfNamed, IsNewBelow, IsSame}
 use Rattle.store_core.specs.StoreFields.{names_of}
 use Rattle.store_core.specs.StoreStates.{StoreState, chunks_of_store, kept_chunk}
 use Rattle.store_core.proofs.NameIndexLemmas.{none_is}
@@ -51,7 +51,7 @@ module _ (name_of : List ℕ → List ℕ) (files : File → List ℕ) (store : 
 
   -- one more that is not the same, and is intact
   pub none-next : (k : ℕ) → IsNewBelow name_of files store chunk k → (IsSame name_of files store chunk k → ⊥) →
-      IsIntact name_of files store chunk k → IsNewBelow name_of files store chunk (k + 1)
+      IsIntactIfNamed name_of files store chunk k → IsNewBelow name_of files store chunk (k + 1)
   none-next k new not_this intact = record {
     none = λ j lt same.
         elim (cases_lt j k) [
@@ -61,6 +61,6 @@ module _ (name_of : List ℕ → List ℕ) (files : File → List ℕ) (store : 
     intact = λ j lt.
         elim (cases_lt j k) [
           | inl below ↦ new.intact j below
-          | inr above ↦ subst (λ i. IsIntact name_of files store chunk i) (omega (arith, lt, above)) intact
+          | inr above ↦ subst (λ i. IsIntactIfNamed name_of files store chunk i) (omega (arith, lt, above)) intact
         ];
   }

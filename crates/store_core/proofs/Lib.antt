@@ -7,17 +7,21 @@ mod BookFiles
 -- what a replay of the records that were read says of the files
 mod OpeningLemmas
 -- the parts of the verdict of opening, put together
-mod StoreLemmas
+pub mod StoreLemmas
 -- opening has one verdict
-mod Verdicts
+pub mod Verdicts
+-- the files of a store that is made
+mod NewStoreLemmas
 -- what one more ingest, named by a recipe, does to a state and its book
-mod IngestLemmas
+pub mod IngestLemmas
 -- an index of names, and one name more
 mod NameIndexLemmas
 -- a chunk that is offered to a store that stands for a state
-mod OfferLemmas
+pub mod OfferLemmas
 -- what a commit leaves of a store that stands for a state
 mod CommitLemmas
+-- a commit leaves clean files clean
+pub mod CleanCommits
 -- what a store keeps of its chunks in memory
 mod FieldLemmas
 -- the record of a session that is committed
@@ -26,7 +30,13 @@ mod SessionLemmas
 mod ReadLemmas
 -- the search for a chunk by its name
 mod FindLemmas
+-- containers with no byte too many, and one more chunk
+pub mod CleanLemmas
+-- what an offer leaves of the files of a store
+mod CleanSteps
 -- the two ways in which a chunk is offered
 mod OfferSteps
 -- what is written of a session that is restored
-mod RestoreLemmas
+pub mod RestoreLemmas
+-- files hold at most one lawful state
+mod OneState

@@ -2,18 +2,19 @@
 use Rattle.std.proofs.Common.{◌≡◌, ◌≢◌, inl, inr, ℕ, zero, suc, ◌<◌, ◌≤◌, Bool, true, false, List, [], ◌∷◌, ◌++◌, length, map, refl, ap, sym, subst, ◌∙◌, arith, append-nil}
 use Rattle.std.proofs.Math.Path.{fun_ext}
 use Rattle.std.proofs.lemmas.List.{append_assoc, get_or-map, length-map, map-append}
-use Rattle.std.specs.Prelude.{Some, drop, slice_index_or, take}
+use Rattle.std.specs.Prelude.{None, Option, Some, drop, slice_index_or, take}
 use Rattle.std.specs.List.{All}
 use Rattle.std.specs.Str.{bytes_eq}
 use Rattle.std.proofs.lemmas.Bool.{cases_Bool}
 use Rattle.std.proofs.lemmas.List.Folds.{list_any-append}
 use Rattle.std.proofs.lemmas.Slice.Eq.{bytes_eq-Decides}
-use Rattle.container_pack.specs.Containers.{ContainersBegin, IsStored}
+use Rattle.container_pack.specs.Containers.{Begins, ContainersBegin, IsStored}
 use Rattle.container_pack.specs.Spots.{LieAt, LiesAt, spots_of}
 use Rattle.container_pack.specs.declared.spot.Spot.{Spot}
 use Rattle.container_pack.proofs.PackingLemmas.{packing-grows}
 use Rattle.container_pack.proofs.ShelfLemmas.{IsStored-read}
 use Rattle.container_pack.proofs.SpotLemmas.{spots_of-lie_by_lengths}
+use Rattle.edge_traits.specs.Shelf.{content}
 use Rattle.sd_base.specs.Books.{book_of, chunks_in}
 use Rattle.sd_base.specs.Distinct.{first_index, is_among, new_chunks, AreDifferent}
 use Rattle.sd_base.specs.Opening.{OpenAs, Opened}
@@ -66,7 +67,7 @@ pub stands-same : (name_of : List ℕ → List ℕ) (store : StoreState) (before
 stands-same name_of store before after state offered same stands =
     subst (λ files. StandsFor name_of store files state offered) (sym (fun_ext same)) stands
 
--- whether the store may be used does not matter
+-- whether `offer` and `commit` may be called does not matter
 pub stands-sound : (name_of : List ℕ → List ℕ) (store : StoreState) (files : File → List ℕ) (state : State)
     (offered : List (List ℕ)) (b : Bool) →
     StandsFor name_of store files state offered → StandsFor name_of (record store { sound = b }) files state offered
@@ -91,7 +92,7 @@ lies-at containers (spot ∷ spots) (chunk ∷ chunks) (suc i) none lie within =
     lies-at containers spots chunks i none lie.1 (omega (arith, within))
 
 -- the chunks by length and name have the lengths of the chunks
-lengths-named : (name_of : List ℕ → List ℕ) (chunks : List (List ℕ)) → lengths_of (map (named name_of) chunks) ≡ map length chunks
+pub lengths-named : (name_of : List ℕ → List ℕ) (chunks : List (List ℕ)) → lengths_of (map (named name_of) chunks) ≡ map length chunks
 lengths-named name_of [] = refl
 lengths-named name_of (chunk ∷ chunks) = ap (λ ns. length chunk ∷ ns) (lengths-named name_of chunks)
 
@@ -142,9 +143,38 @@ module _ (name_of : List ℕ → List ℕ) (store : StoreState) (files : File �
 -- ---- one more chunk
 
 -- what begins with more begins with less
-begins-less : (bytes front more rest : List ℕ) → more ≡ front ++ rest → IsFrontOf more bytes → IsFrontOf front bytes
-begins-less bytes front more rest longer begins =
+begins-less : (told : Option (List ℕ)) (front more rest : List ℕ) → more ≡ front ++ rest → Begins told more → Begins told front
+begins-less None front more rest longer begins = tt
+begins-less (Some bytes) front more rest longer begins =
     (rest ++ begins.0, begins.1 ∙ ap (λ b. b ++ begins.0) longer ∙ append_assoc front rest begins.0)
+
+-- containers that begin with more chunks begin with fewer
+pub begin-fewer : (files : Option (File → List ℕ)) (generation : ℕ) (chunks more : List (List ℕ)) →
+    ContainersBegin files generation (packing (chunks ++ more)) → ContainersBegin files generation (packing chunks)
+begin-fewer files generation chunks more begin = λ k within.
+    let grown = packing-grows chunks more in
+    let grow = grown.prefix k within in
+    begins-less (content files (Container generation k)) (slice_index_or (packing chunks) k [])
+    (slice_index_or (packing (chunks ++ more)) k []) grow.0 grow.1 (begin k (omega (arith, within, grown.no_fewer)))
+
+-- the files go on to hold a state if the containers begin with its chunks and maybe more, and no
+-- other file changes
+pub held-on : (name_of : List ℕ → List ℕ) (before after : File → List ℕ) (state : State) (more : List (List ℕ)) →
+    HoldState name_of before state → ContainersBegin (Some after) state.generation (packing (stored_chunks state ++ more)) →
+    ((f : File) → ((k : ℕ) → f ≢ Container state.generation k) → after f ≡ before f) → HoldState name_of after state
+held-on name_of before after state more held begin others =
+    let same_head : after Head ≡ before Head = others Head (λ k is. absurd cc) in
+    let same_seal : after (Seal state.generation) ≡ before (Seal state.generation) =
+    others (Seal state.generation) (λ k is. absurd cc) in
+    let same_book : after (Book state.generation) ≡ before (Book state.generation) =
+    others (Book state.generation) (λ k is. absurd cc) in
+    record {
+      settings = ap (take SETTINGS_LEN) same_head ∙ held.settings;
+      generation = ap length same_head ∙ held.generation;
+      seal = ap length same_seal ∙ held.seal;
+      book = subst (IsFrontOf (book_of (records_of name_of state))) (sym same_book) held.book;
+      containers = begin-fewer (Some after) state.generation (stored_chunks state) more begin;
+    }
 
 -- the store with a new chunk appended stands for the state, with the chunk offered
 pub stands-appended : (name_of : List ℕ → List ℕ) (store : StoreState) (before after : File → List ℕ) (state : State)
@@ -159,28 +189,13 @@ stands-appended name_of store before after state offered chunk stands different 
     let together : (stored ++ offered) ++ chunk ∷ [] ≡ stored ++ more = append_assoc stored offered (chunk ∷ []) in
     let now : ContainersBegin (Some after) state.generation (packing (stored ++ more)) =
     subst (λ chunks. ContainersBegin (Some after) state.generation (packing chunks)) together begin in
-    let grown = packing-grows stored more in
-    let same_head : after Head ≡ before Head = others Head (λ k is. absurd cc) in
-    let same_seal : after (Seal state.generation) ≡ before (Seal state.generation) =
-    others (Seal state.generation) (λ k is. absurd cc) in
-    let same_book : after (Book state.generation) ≡ before (Book state.generation) =
-    others (Book state.generation) (λ k is. absurd cc) in
     record {
       lawful = stands.lawful;
       opened = stands.opened;
       offers = ap (λ new. new ++ named name_of chunk ∷ []) stands.offers
           ∙ sym (map-append (named name_of) offered (chunk ∷ []));
       different = subst AreDifferent together different;
-      held = record {
-        settings = ap (take SETTINGS_LEN) same_head ∙ stands.held.settings;
-        generation = ap length same_head ∙ stands.held.generation;
-        seal = ap length same_seal ∙ stands.held.seal;
-        book = subst (IsFrontOf (book_of (records_of name_of state))) (sym same_book) stands.held.book;
-        containers = λ k within.
-            let grow = grown.prefix k within in
-            begins-less (after (Container state.generation k)) (chunk_at (packing stored) k) (chunk_at (packing (stored ++ more)) k)
-            grow.0 grow.1 (now k (omega (arith, within, grown.no_fewer)));
-      };
+      held = held-on name_of before after state more stands.held now others;
       begin = now;
     }
 

@@ -1,6 +1,6 @@
 -- The two ways in which a chunk is offered to a store that stands for a state.
-use Rattle.std.proofs.Common.{◌≡◌, ℕ, ◌<◌, ◌≤◌, Bool, false, List, [], ◌∷◌, ◌++◌, length, map, refl, sym, ap, subst, ◌∙◌, append-nil}
-use Rattle.std.specs.Prelude.{◌≢◌, IfSome, IfOk, OnOk, None, Some, Ok, Err, Result}
+use Rattle.std.proofs.Common.{◌≡◌, inl, inr, ℕ, ◌<◌, ◌≤◌, Bool, false, List, [], ◌∷◌, ◌++◌, length, map, refl, sym, ap, subst, ◌∙◌, append-nil}
+use Rattle.std.specs.Prelude.{◌≢◌, IfSome, IfOk, OnOk, OnErr, None, Some, Ok, Err, Result}
 use Rattle.std.specs.List.{All}
 use Rattle.container_pack.specs.Containers.{ContainersBegin}
 use Rattle.edge_traits.specs.Shelf.{SameFiles, content}
@@ -8,20 +8,17 @@ use Rattle.sd_base.specs.Distinct.{AreDifferent, first_index, is_among, new_chun
 use Rattle.sd_base.specs.Opening.{Opened}
 use Rattle.sd_base.specs.Packing.{packing}
 use Rattle.sd_base.specs.States.{State, stored_chunks}
-use Rattle.sd_base.specs.Stores.{named}
+use Rattle.sd_base.specs.declared.damage.Damage.{Damage}
 use Rattle.sd_base.specs.declared.file.File.{File}
 use Rattle.sd_base.specs.declared.file.File.TheVariants.{Container}
 use Rattle.sd_base.specs.declared.limits.TheConstants.{MAX_CHUNKS}
-use Rattle.store_core.specs.Offers.{IsLeastSame, IsNewBelow, IsOffered, with_offer}
+use Rattle.store_core.specs.Offers.{IsFoundDamaged, IsLeastSame, IsNewBelow, IsOffered, IsRefused, OnlyOffers, with_offer}
 use Rattle.store_core.specs.StoreFields.{lengths_of}
 use Rattle.store_core.specs.StoreStates.{StandsFor, StoreState, chunks_of_store}
 use Rattle.store_core.specs.declared.fault.StoreFault.{StoreFault}
-use Rattle.store_core.proofs.OfferLemmas.{stands-appended, stands-chunks, stands-count, stands-least, stands-none, stands-sound}
+use Rattle.store_core.specs.declared.fault.StoreFault.TheVariants.{Damaged, TooManyChunks}
+use Rattle.store_core.proofs.OfferLemmas.{lengths-named, stands-appended, stands-chunks, stands-count, stands-least, stands-none, stands-sound, stands-undamaged}
 use Rattle.store_core.proofs.StoreLemmas.{Told, held-is, same-told, told_map}
-
-named-lengths : (name_of : List ℕ → List ℕ) (chunks : List (List ℕ)) → lengths_of (map (named name_of) chunks) ≡ map length chunks
-named-lengths name_of [] = refl
-named-lengths name_of (chunk ∷ chunks) = ap (λ (ns : List ℕ). length chunk ∷ ns) (named-lengths name_of chunks)
 
 module _ (name_of : List ℕ → List ℕ) (store new : StoreState) (old now : Told) (chunk : List ℕ)
     (some : All (λ n. 1 ≤ n) (lengths_of (chunks_of_store store))) (state : State) (offered : List (List ℕ)) where
@@ -78,7 +75,7 @@ module _ (name_of : List ℕ → List ℕ) (store mid new : StoreState) (old rea
         let generation : mid.opened.head.generation ≡ state.generation =
         ap (λ (s : StoreState). s.opened.head.generation) kept ∙ ap (λ (o : Opened). o.head.generation) stands.opened in
         let lengths : map length known ≡ lengths_of (chunks_of_store mid) =
-        sym (named-lengths name_of known) ∙ sym (ap lengths_of (stands-chunks name_of store files state offered stands))
+        sym (lengths-named name_of known) ∙ sym (ap lengths_of (stands-chunks name_of store files state offered stands))
         ∙ ap (λ (s : StoreState). lengths_of (chunks_of_store s)) (sym kept) in
         let begin : OnOk r (ContainersBegin now mid.opened.head.generation (packing (known ++ chunk ∷ []))) = packed known lengths
         (subst (λ (t : Told). ContainersBegin t mid.opened.head.generation (packing known)) (sym told_ready)
@@ -112,6 +109,22 @@ module _ (name_of : List ℕ → List ℕ) (store mid new : StoreState) (old rea
                 (λ file apart. same-file file files f ready told_ready
                 (ap (λ (u : Told). content u file) is_now ∙ others file (λ k same_one. apart k (same_one ∙ ap (λ g. Container g k) generation))))))
 
+-- the containers begin with one chunk more, as the store and its files were before the search
+pub packed-passed : (store mid : StoreState) (old ready now : Told) (chunk : List ℕ) → mid ≡ store → SameFiles old ready →
+    (r : Result ℕ StoreFault) → ((chunks : List (List ℕ)) → map length chunks ≡ lengths_of (chunks_of_store mid) →
+    ContainersBegin ready mid.opened.head.generation (packing chunks) →
+    OnOk r (ContainersBegin now mid.opened.head.generation (packing (chunks ++ chunk ∷ [])))) →
+    (chunks : List (List ℕ)) → map length chunks ≡ lengths_of (chunks_of_store store) →
+    ContainersBegin old store.opened.head.generation (packing chunks) →
+    IfOk r (λ i. i ≡ length (chunks_of_store store) → ContainersBegin now store.opened.head.generation (packing (chunks ++ chunk ∷ [])))
+packed-passed store mid old ready now chunk kept same (Err e) packed chunks lengths begin = tt
+packed-passed store mid old ready now chunk kept same (Ok i) packed chunks lengths begin = λ next.
+    let generation : mid.opened.head.generation ≡ store.opened.head.generation = ap (λ (s : StoreState). s.opened.head.generation) kept in
+    subst (λ g. ContainersBegin now g (packing (chunks ++ chunk ∷ []))) generation
+    (packed chunks (lengths ∙ ap (λ (s : StoreState). lengths_of (chunks_of_store s)) (sym kept))
+    (subst (λ (t : Told). ContainersBegin t mid.opened.head.generation (packing chunks)) (sym (same-told old ready same))
+    (subst (λ g. ContainersBegin old g (packing chunks)) (sym generation) begin)))
+
 -- whether the store is sound does not matter
 sound_too : (name_of : List ℕ → List ℕ) (store : StoreState) (b : Bool) (state : State) (offered : List (List ℕ)) (chunk : List ℕ)
     (now : Told) (r : Result ℕ StoreFault) → IfOk r (λ i. IsOffered name_of state offered chunk i store now) →
@@ -127,3 +140,29 @@ pub offered-sound : (name_of : List ℕ → List ℕ) (first store : StoreState)
     IfOk r (λ i. IsOffered name_of state offered chunk i (record store { sound = b }) now))
 offered-sound name_of first store b state offered chunk old now r done =
     told_map old (λ before offers stands. sound_too name_of store b state offered chunk now r (offers stands)) done
+
+-- if the store stands for a state, an offer finds no damage, and there are too many chunks only if
+-- this is none of them
+pub refused-stands : (Z : Type 0) (name_of : List ℕ → List ℕ) (store : StoreState) (told : Told) (chunk : List ℕ)
+    (some : All (λ n. 1 ≤ n) (lengths_of (chunks_of_store store))) (state : State) (offered : List (List ℕ)) (r : Result ℕ StoreFault) →
+    OnErr r (OnlyOffers r × Z) →
+    ((damage : Damage) → r ≡ Err (Damaged damage) → IfSome told (λ files. IsFoundDamaged name_of files store chunk damage)) →
+    (r ≡ Err TooManyChunks →
+    (length (chunks_of_store store) ≡ MAX_CHUNKS) × IfSome told (λ files. IsNewBelow name_of files store chunk MAX_CHUNKS)) →
+    IfSome told (λ before. StandsFor name_of store before state offered → OnErr r (IsRefused state offered chunk r))
+refused-stands Z name_of store None chunk some state offered r refused damaged too_many = tt
+refused-stands Z name_of store (Some files) chunk some state offered (Ok i) refused damaged too_many = λ stands. tt
+refused-stands Z name_of store (Some files) chunk some state offered (Err e) refused damaged too_many = λ stands. elim refused.0 [
+  | inl found ↦ absurd (stands-undamaged name_of store files state offered stands some chunk found.0 (damaged found.0 found.1))
+  | inr (inl many) ↦
+      let full = too_many many in
+      let count = stands-count name_of store files state offered stands in
+      let all : length (stored_chunks state ++ offered) ≡ MAX_CHUNKS = sym count ∙ full.0 in
+      inl (
+        many,
+        all,
+        (stands-none name_of store files state offered stands some chunk
+            (subst (λ k. IsNewBelow name_of files store chunk k) (sym all) full.1)).1,
+      )
+  | inr (inr fails) ↦ inr fails
+]

@@ -1,15 +1,17 @@
 -- What a replay of the records that were read says of the files.
-use Rattle.std.proofs.Common.{◌≡◌, ℕ, List, length, take, subst, sym, ap, ◌∙◌}
+use Rattle.std.proofs.Common.{◌≡◌, inl, inr, ℕ, ◌+◌, List, [], ◌∷◌, ◌++◌, length, take, subst, sym, ap, ◌∙◌}
 use Rattle.std.specs.Prelude.{◌↔◌, Err, IfSome, IsErrAnd, None, Ok, Option, Result, Some}
 use Rattle.edge_traits.specs.Shelf.{content}
-use Rattle.sd_base.specs.Books.{BookState, IsBookDamage, IsReplay}
+use Rattle.sd_base.specs.Books.{BookState, IsBookDamage, IsReplay, flaw_at, recipe_damage, recipe_flaw, sessions_of}
 use Rattle.sd_base.specs.declared.damage.Damage.{Damage}
 use Rattle.sd_base.specs.declared.file.File.{File}
 use Rattle.sd_base.specs.declared.file.File.TheVariants.{Book as BookFile, Seal}
+use Rattle.sd_base.specs.declared.record.NewChunk.{NewChunk}
+use Rattle.sd_base.specs.declared.record.Session.{Session}
 use Rattle.session_book.specs.Replaying.{IfDamaged}
 use Rattle.session_book.specs.declared.replay.BookFault.{BookFault}
 use Rattle.session_book.specs.declared.replay.BookFault.TheVariants as book
-use Rattle.store_core.specs.Faults.{store_fault_of_book}
+use Rattle.store_core.specs.Faults.{IsOfOpening, store_fault_of_book}
 use Rattle.store_core.specs.declared.fault.StoreFault.{StoreFault}
 use Rattle.store_core.specs.declared.fault.StoreFault.TheVariants as store
 use Rattle.store_core.specs.BookFiles.{whole_len}
@@ -62,3 +64,23 @@ damage-of_fault B (book.Damaged d) (Err e) damage P is gives found =
 damage-of_fault B book.OutOfMemory (Ok x) damage P is gives found = absurd cc
 damage-of_fault B book.OutOfMemory (Err e) damage P is gives found =
     let clash : store.Damaged damage ≡ store.OutOfMemory = sym (err-is is) ∙ gives in absurd cc
+
+-- ---- what is wrong with a book is a damage that opening may find
+
+flaw-kind : (k : ℕ) (flaw : Option ℕ) (later : Option Damage) (damage : Damage) →
+    (later ≡ Some damage → IsOfOpening damage) → flaw_at k flaw later ≡ Some damage → IsOfOpening damage
+flaw-kind k None later damage rest is = rest is
+flaw-kind k (Some place) later damage rest is =
+    subst (λ (found : Option Damage). IfSome found IsOfOpening) is tt
+
+recipe-kind : (chunks : List NewChunk) (k : ℕ) (sessions : List Session) (damage : Damage) →
+    recipe_damage chunks k sessions ≡ Some damage → IsOfOpening damage
+recipe-kind chunks k [] damage is = absurd cc
+recipe-kind chunks k (session ∷ sessions) damage is =
+    let known = chunks ++ session.entry.fresh in
+    flaw-kind k (recipe_flaw known session.entry) (recipe_damage known (k + 1) sessions) damage
+    (recipe-kind known (k + 1) sessions damage) is
+
+pub book-kind : (max : ℕ) (bytes : List ℕ) (n : ℕ) (damage : Damage) → IsBookDamage max bytes n damage → IsOfOpening damage
+book-kind max bytes n damage (inl record_bad) = subst IsOfOpening (sym record_bad.equals) tt
+book-kind max bytes n damage (inr recipe_bad) = recipe-kind [] 0 (sessions_of recipe_bad.records) damage recipe_bad.first

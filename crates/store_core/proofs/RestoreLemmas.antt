@@ -8,27 +8,24 @@ use Rattle.std.proofs.Math.ListN.{get_or-append}
 use Rattle.std.proofs.Math.Seq.{split_at, take-append-add}
 use Rattle.std.proofs.lemmas.Bool.{cases_lt, leb-false, lt-leb, lt-ltb}
 use Rattle.std.proofs.lemmas.Grind.{flat_map-append}
-use Rattle.std.proofs.lemmas.List.{append_assoc, get_or-append-add, get_or_default, length-map, take-append-drop, take-append-le, take_all, take_more}
+use Rattle.std.proofs.lemmas.List.{append_assoc, get_or-append-add, take-append-drop, take-append-le, take_all, take_more}
 use Rattle.std.proofs.lemmas.List.Concat.{flat_map-cons}
-use Rattle.std.proofs.lemmas.List.Elements.{All-append, All-from_recursion, All-get_or}
+use Rattle.std.proofs.lemmas.List.Elements.{All-append, All-from_recursion, All-get_or, recursion_from_All}
 use Rattle.std.proofs.lemmas.List.Quantifiers.{position-Some}
 use Rattle.std.proofs.lemmas.List.Sums.{fails_before_first, position_or_len_is, sum_by-cons}
 use Rattle.std.proofs.lemmas.Slice.Eq.{bytes_eq-Decides}
-use Rattle.container_pack.specs.Spots.{filled_by, nothing_filled, spots_on}
-use Rattle.container_pack.specs.declared.fill.Fill.{Fill}
 use Rattle.container_pack.specs.declared.packer.Packer.{Packer}
 use Rattle.container_pack.specs.declared.spot.Spot.{Spot}
-use Rattle.edge_traits.specs.Shelf.{IsReadAt, content}
 use Rattle.edge_traits.specs.Sink.{Appends, AppendsPrefix}
-use Rattle.sd_base.specs.Books.{chunks_in, flaw_at, live_session, or_else, places_in, recipe_damage, recipe_flaw}
+use Rattle.sd_base.specs.Books.{BookState, chunks_in, flaw_at, live_session, or_else, places_in, recipe_damage, recipe_flaw}
+use Rattle.sd_base.specs.Cutting.{chunks_of, cuts_within}
 use Rattle.sd_base.specs.Distinct.{first_index, is_among}
-use Rattle.sd_base.specs.Opening.{Opened}
-use Rattle.sd_base.specs.StateBooks.{book_sessions}
-use Rattle.sd_base.specs.States.{State, StoredSession, bytes_of_session, live_session_named, placed_chunks, sessions_in, stored_chunks}
+use Rattle.sd_base.specs.Opening.{OpenAs, Opened}
+use Rattle.sd_base.specs.StateBooks.{book_of_state, book_sessions}
+use Rattle.sd_base.specs.States.{IsCutting, IsLawful, State, StoredSession, bytes_of_session, live_session_named, placed_chunks, sessions_in, stored_chunks}
 use Rattle.sd_base.specs.declared.damage.Damage.{Damage}
 use Rattle.sd_base.specs.declared.damage.Damage.TheVariants.{Chunk as BadChunk}
 use Rattle.sd_base.specs.declared.file.File.{File}
-use Rattle.sd_base.specs.declared.file.File.TheVariants.{Container}
 use Rattle.sd_base.specs.declared.record.IngestRecord.{IngestRecord}
 use Rattle.sd_base.specs.declared.record.NewChunk.{NewChunk}
 use Rattle.sd_base.specs.declared.record.Session.{Session}
@@ -39,7 +36,7 @@ use Rattle.sd_base.proofs.States.{among_later, among_own, placed-stored}
 use Rattle.store_core.specs.Offers.{IsReadDamaged}
 use Rattle.store_core.specs.Restores.{FindsDamage, IsIntact, RestoresAll, RestoresPart, RestoresState, bytes_as_read, recipe_named, session_bytes, unknown_place}
 use Rattle.store_core.specs.StoreFields.{ArePlaced, lengths_of}
-use Rattle.store_core.specs.StoreStates.{StandsFor, StoreState, chunk_as_read, chunks_of_store, kept_chunk, spot_of_chunk}
+use Rattle.store_core.specs.StoreStates.{StandsFor, StoreState, chunk_as_read, chunks_of_store, kept_chunk}
 use Rattle.store_core.specs.declared.fault.StoreFault.{StoreFault}
 use Rattle.store_core.specs.declared.fault.StoreFault.TheVariants.{Damaged, NoSession}
 use Rattle.store_core.specs.declared.name_index.NameIndex.{NameIndex}
@@ -48,45 +45,6 @@ use Rattle.store_core.proofs.OfferLemmas.{stands-count, stands-kept, stands-read
 use Rattle.store_core.proofs.StoreLemmas.{Told}
 
 -- ---- one chunk
-
-spots-count : (fill : Fill) (lengths : List ℕ) → length (spots_on fill lengths) ≡ length lengths
-spots-count fill [] = refl
-spots-count fill (n ∷ ns) = ap suc (spots-count (filled_by fill n) ns)
-
--- there is a spot for each chunk
-pub spot-each : (chunks : List NewChunk) (number : ℕ) (lie : List Spot) (packer : Packer) (index : NameIndex) →
-    ArePlaced chunks number lie packer index → length lie ≡ length chunks
-spot-each chunks number lie packer index placed =
-    ap length placed.spots ∙ spots-count nothing_filled (lengths_of chunks) ∙ length-map chunks (λ chunk. chunk.length)
-
--- what was read at the spot of a chunk is the chunk as it is read
-read-at_spot : (told : Told) (store : StoreState) (i : ℕ) (spot : Spot) (kept : NewChunk) (read : List ℕ) →
-    spot ≡ spot_of_chunk store i → kept ≡ kept_chunk store i →
-    IsReadAt (content told (Container store.opened.head.generation spot.container)) spot.offset kept.length read →
-    IfSome told (λ files. read ≡ chunk_as_read files store i)
-read-at_spot None store i spot kept read at is given = tt
-read-at_spot (Some files) store i spot kept read at is given =
-    let bytes_at = λ (s : Spot) (n : ℕ). take n (drop s.offset (files (Container store.opened.head.generation s.container))) in
-    given ∙ ap (λ (s : Spot). bytes_at s kept.length) at
-    ∙ ap (λ (c : NewChunk). bytes_at (spot_of_chunk store i) c.length) is
-
--- the same of a store that keeps where its chunks lie
-pub read-stored : (told : Told) (own store : StoreState) (lie : List Spot) (packer : Packer) (index : NameIndex) (i : ℕ)
-    (spot : Spot) (kept : NewChunk) (read : List ℕ) → own ≡ store →
-    ArePlaced (chunks_of_store own) own.opened.head.generation lie packer index →
-    i < length (chunks_of_store store) → spot ≡ slice_index_or lie i spot → kept ≡ kept_chunk store i →
-    IsReadAt (content told (Container own.opened.head.generation spot.container)) spot.offset kept.length read →
-    IfSome told (λ files. read ≡ chunk_as_read files store i)
-read-stored told own store lie packer index i spot kept read same placed within at is given =
-    let none : Spot = record { container = 0; offset = 0 } in
-    let count = spot-each (chunks_of_store own) own.opened.head.generation lie packer index placed in
-    let same_count = ap (λ (s : StoreState). length (chunks_of_store s)) same in
-    let here = at ∙ get_or_default lie i spot none (omega (arith, within, count, same_count))
-    ∙ ap (λ (spots : List Spot). slice_index_or spots i none) placed.spots
-    ∙ ap (λ (s : StoreState). spot_of_chunk s i) same in
-    read-at_spot told store i spot kept read here is
-    (subst (λ (s : StoreState). IsReadAt (content told (Container s.opened.head.generation spot.container)) spot.offset kept.length read)
-    same given)
 
 -- what was read has another name than the one that is kept
 pub read-damaged : (name_of : List ℕ → List ℕ) (told : Told) (store : StoreState) (i : ℕ) (read found : List ℕ)
@@ -587,6 +545,39 @@ told-known name_of (Some files) store some name place result before after unknow
     let clash : Some place ≡ None =
     sym unknown ∙ stands-known name_of store files state offered stands some name in absurd cc
 
+-- ---- a session that has no bytes
+
+abbrev Cut : State → StoredSession → Type 0
+Cut state session = IsCutting state.params session.chunks
+
+no-chunks-at : (state : State) (sessions : List StoredSession) (k : ℕ) → AllByRecursion (Cut state) sessions →
+    unwrap_or (option_map bytes_of_session (slice_get sessions k)) [] ≡ [] → chunks_at sessions (Some k) ≡ []
+unfolding cuts_within
+no-chunks-at state [] k cut none = refl
+no-chunks-at state (s ∷ sessions) zero cut none = cut.0 ∙ ap (chunks_of state.params) none
+no-chunks-at state (s ∷ sessions) (suc k) cut none = no-chunks-at state sessions k cut.1 none
+
+no-recipe-at : (name_of : List ℕ → List ℕ) (state : State) → IsLawful state → (k : Option ℕ) →
+    unwrap_or (option_map bytes_of_session (option_and_then (slice_get (sessions_in state)) k)) [] ≡ [] →
+    recipe_in (book_sessions name_of (stored_chunks state) [] (sessions_in state)) k ≡ []
+no-recipe-at name_of state lawful None none = refl
+no-recipe-at name_of state lawful (Some k) none =
+    ap (λ (o : Option (List ℕ)). unwrap_or o []) (recipe-book name_of (stored_chunks state) [] (sessions_in state) k)
+    ∙ recipe-at (stored_chunks state) (sessions_in state) k
+    ∙ ap (map (first_index (stored_chunks state)))
+    (no-chunks-at state (sessions_in state) k (recursion_from_All (Cut state) (sessions_in state) lawful.cut) none)
+
+-- it has no places in a store that stands for the state
+pub no-places : (name_of : List ℕ → List ℕ) (store : StoreState) (files : File → List ℕ) (state : State)
+    (offered : List (List ℕ)) → StandsFor name_of store files state offered → (name : List ℕ) →
+    session_bytes state name ≡ [] → recipe_named store name ≡ []
+no-places name_of store files state offered stands name none =
+    let found = live_session_named (sessions_in state) name in
+    ap (λ (o : Opened). recipe_in o.book.sessions (live_session o.book.sessions name)) stands.opened
+    ∙ ap (recipe_in (book_of_state name_of state).sessions) (book-live_session name_of state name)
+    ∙ ap (λ sessions. recipe_in sessions found) (sessions-book name_of state)
+    ∙ no-recipe-at name_of state stands.lawful found none
+
 -- ---- a book of which no recipe fails
 
 no-flaw : (place : Option ℕ) (sum : Option ℕ) → or_else place sum ≡ None → place ≡ None
@@ -633,3 +624,11 @@ undamaged-known store name none =
     let sum = length-append (chunks_in sessions) store.offered in
     none-first (length (chunks_of_store store)) (recipe_named store name)
     (λ i within. let below = recipe-below sessions (live_session sessions name) i none within in omega (arith, below, sum))
+
+-- files that open have such a book: over them no recipe of the store has a place that names no chunk
+pub recipes-known : (files : File → List ℕ) (opened : Opened) (name : List ℕ) → OpenAs files opened →
+    unknown_place (record { opened = opened; offered = []; sound = true })
+    (recipe_named (record { opened = opened; offered = []; sound = true }) name) ≡ None
+recipes-known files opened name opens =
+    undamaged-known (record { opened = opened; offered = []; sound = true }) name
+    (ap (λ (book : BookState). recipe_damage [] 0 book.sessions) opens.committed.equals ∙ opens.committed.recipes)

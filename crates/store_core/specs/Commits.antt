@@ -1,8 +1,8 @@
 -- What a commit does to the files of a store, and when it is refused before it writes.
-use Rattle.std.specs.Prelude.{◌≡◌, ◌≢◌, ◌⊎◌, ℕ, ◌+◌, nat_le, nat_lt, Bool, true, false, if◌then◌else◌, is_some, List, [], ◌∷◌, ◌++◌, length, map, take, Option, Some, None, option_map, Result, Err}
+use Rattle.std.specs.Prelude.{◌≡◌, ◌≢◌, ◌⊎◌, ℕ, ◌+◌, ◌<◌, ◌≤◌, nat_le, nat_lt, Bool, true, false, if◌then◌else◌, is_some, List, [], ◌∷◌, ◌++◌, length, map, take, Option, Some, None, option_map, Result, Err}
 use Rattle.container_pack.specs.Containers.{KeepsFront}
 use Rattle.edge_traits.specs.Shelf.{content}
-use Rattle.sd_base.specs.Books.{BookState, live_session, places_in, with_record}
+use Rattle.sd_base.specs.Books.{BookState, chunks_in, live_session, places_in, with_record}
 use Rattle.sd_base.specs.Records.{spelling_of}
 use Rattle.sd_base.specs.StateLaws.{chunk_at}
 use Rattle.sd_base.specs.States.{State, followed_by_event, ingested, stored_chunks}
@@ -11,7 +11,7 @@ use Rattle.sd_base.specs.declared.file.File.TheVariants.{Book, Container, Seal}
 use Rattle.sd_base.specs.declared.limits.TheConstants.{COMMIT_BYTE, MAX_PLACES, MAX_SESSIONS}
 use Rattle.sd_base.specs.declared.record.IngestRecord.{IngestRecord}
 use Rattle.sd_base.specs.declared.record.Record.TheVariants.{Ingest}
-use Rattle.store_core.specs.StoreStates.{StoreState}
+use Rattle.store_core.specs.StoreStates.{StoreState, chunks_of_store, spot_of_chunk}
 use Rattle.store_core.specs.declared.fault.StoreFault.{StoreFault}
 use Rattle.store_core.specs.declared.fault.StoreFault.TheVariants.{NameTaken, OutOfMemory, ShelfFault, TooManyPlaces, TooManySessions}
 
@@ -57,6 +57,13 @@ CommitsIngest store entry before after =
 pub record CommitsNothing (generation used : ℕ) (before after : Option (File → List ℕ)) : Type 0 where
   pub book : KeepsFront (Book generation) used before after
   pub others : (f : File) → f ≢ Book generation → content after f ≡ content before f
+
+-- a chunk that was offered since the last commit lies in container k
+pub record HasOffered (store : StoreState) (k : ℕ) : Type 0 where
+  pub number : ℕ
+  pub offered : length (chunks_in store.opened.book.sessions) ≤ number
+  pub within : number < length (chunks_of_store store)
+  pub container : k ≡ (spot_of_chunk store number).container
 
 -- the book and these containers are not loose
 pub record AreFlushed (generation : ℕ) (IsIn : ℕ → Type 0) (loose : File → Bool) : Type 0 where

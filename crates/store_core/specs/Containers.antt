@@ -17,7 +17,7 @@ pub record IsFirstShort (files : File → List ℕ) (generation : ℕ) (sizes : 
   pub equals : damage ≡ ShortContainer number (slice_index_or sizes number 0)
       (length (files (Container generation number)))
 
--- how a part of opening that finds the head may be refused
+-- how a call that only reads may be refused
 abbrev pub OnlyFinds : {T : Type 0} → Result T StoreFault → Type 0
 OnlyFinds result =
     ((damage : Damage) × (result ≡ Err (Damaged damage))) ⊎ (result ≡ Err ShelfFault) ⊎ (result ≡ Err OutOfMemory)

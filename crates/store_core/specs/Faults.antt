@@ -1,7 +1,10 @@
--- What a fault of a shelf means to the store over it, and which faults leave the store sound.
-use Rattle.std.specs.Prelude.{Bool, true, false, Result, Ok, Err}
+-- What a fault of a shelf means to the store over it, which faults leave the store sound, and which
+-- damages are found when a store is opened and when a chunk is read.
+use Rattle.std.specs.Prelude.{⊤, Bool, true, false, Result, Ok, Err}
 use Rattle.edge_traits.specs.declared.fault.EdgeFault.{EdgeFault}
 use Rattle.edge_traits.specs.declared.fault.EdgeFault.TheVariants as edge
+use Rattle.sd_base.specs.declared.damage.Damage.{Damage}
+use Rattle.sd_base.specs.declared.damage.Damage.TheVariants as damage
 use Rattle.session_book.specs.declared.replay.BookFault.{BookFault}
 use Rattle.session_book.specs.declared.replay.BookFault.TheVariants as book
 use Rattle.store_core.specs.declared.fault.StoreFault.{StoreFault}
@@ -16,7 +19,7 @@ abbrev pub store_fault_of_book : BookFault → StoreFault
 store_fault_of_book (book.Damaged damage) = store.Damaged damage
 store_fault_of_book book.OutOfMemory = store.OutOfMemory
 
--- whether a store may be used after a call that returned this
+-- whether `offer` and `commit` may be called after a call that returned this
 abbrev pub stays_sound : {T : Type 0} → Result T StoreFault → Bool
 stays_sound (Ok _) = true
 stays_sound (Err (store.Damaged damage)) = false
@@ -30,3 +33,27 @@ stays_sound (Err store.TooManySessions) = true
 stays_sound (Err store.TooManyPlaces) = true
 stays_sound (Err store.TooManyChunks) = true
 stays_sound (Err store.SinkFault) = true
+
+-- a damage that opening may find: of the head, of a record, of a recipe, or of a container's size
+abbrev pub IsOfOpening : Damage → Type 0
+IsOfOpening damage.Head = ⊤
+IsOfOpening (damage.Record k) = ⊤
+IsOfOpening (damage.Recipe session place) = ⊤
+IsOfOpening (damage.Container number needed found) = ⊤
+IsOfOpening (damage.Mark number found) = ⊥
+IsOfOpening (damage.Chunk number kept found) = ⊥
+IsOfOpening (damage.Twin first second) = ⊥
+IsOfOpening (damage.Order session place) = ⊥
+IsOfOpening (damage.Cut session place) = ⊥
+
+-- a damage of a chunk's bytes
+abbrev pub IsOfChunk : Damage → Type 0
+IsOfChunk damage.Head = ⊥
+IsOfChunk (damage.Record k) = ⊥
+IsOfChunk (damage.Recipe session place) = ⊥
+IsOfChunk (damage.Container number needed found) = ⊥
+IsOfChunk (damage.Mark number found) = ⊥
+IsOfChunk (damage.Chunk number kept found) = ⊤
+IsOfChunk (damage.Twin first second) = ⊥
+IsOfChunk (damage.Order session place) = ⊥
+IsOfChunk (damage.Cut session place) = ⊥

@@ -24,6 +24,8 @@ pub mod Recipes
 pub mod Commits
 -- an index of names of chunks
 pub mod NameIndex
+-- files of a store that have no byte too many
+pub mod CleanFiles
 -- what a store keeps in memory
 pub mod StoreFields
 -- opening has one verdict

@@ -1,12 +1,13 @@
--- What calls of the store do to their shelf, whatever it holds. Each fact takes the ghost functions
--- of the shelf, and the shelf itself before and after the call.
+-- What calls of the store do to a device, whatever it holds. A device is a shelf or a sink. Each
+-- fact takes the ghost functions of the device, and the device itself before and after the call.
 use Rattle.std.specs.Prelude.{◌≡◌, ℕ, ◌≤◌, List, Bool, Option}
 use Rattle.edge_traits.specs.Faults.{Rose}
 use Rattle.edge_traits.specs.Shelf.{SameFiles, SameLoose}
 use Rattle.sd_base.specs.declared.file.File.{File}
 
--- The call failed only if the count of faults rose. Over a shelf that will never fail again it does
--- not fail.
+-- The call failed only if the device's count of faults rose. The count never falls. Over a device
+-- that will never fail again the call does not fail, the count does not rise, and the device will
+-- still never fail.
 pub record CountsFaults {F : Type 0} (fails : Type 0) (faults : F → ℕ) (faultless : F → Type 0)
     (before after : F) : Type 0 where
   pub failed : fails → Rose (faults before) (faults after)
@@ -15,7 +16,7 @@ pub record CountsFaults {F : Type 0} (fails : Type 0) (faults : F → ℕ) (faul
   pub faultless_counts_none : faultless before → faults after ≡ faults before
   pub stays_faultless : faultless before → faultless after
 
--- the call changed no file
+-- no file has changed, the same files are loose, and faults are counted
 pub record OnlyReads {F : Type 0} (fails : Type 0) (files : F → Option (File → List ℕ))
     (loose : F → File → Bool) (faults : F → ℕ) (faultless : F → Type 0) (before after : F) : Type 0 where
   pub same_files : SameFiles (files before) (files after)

@@ -1,7 +1,7 @@
 -- What a `Store` keeps in memory beside what its callers see.
-use Rattle.std.specs.Prelude.{◌≡◌, ℕ, ◌≤◌, List, length, map, take}
+use Rattle.std.specs.Prelude.{◌≡◌, ℕ, ◌≤◌, List, length, map, take, ◌<◌, slice_index_or}
 use Rattle.std.specs.List.{All}
-use Rattle.container_pack.specs.Packer.{generation_of, IsBehind}
+use Rattle.container_pack.specs.Packer.{generation_of, IsBehind, IsUnflushed}
 use Rattle.container_pack.specs.Spots.{spots_of}
 use Rattle.container_pack.specs.declared.packer.Packer.{Packer}
 use Rattle.container_pack.specs.declared.spot.Spot.{Spot}
@@ -28,3 +28,8 @@ pub record ArePlaced (chunks : List NewChunk) (number : ℕ) (lie : List Spot) (
   pub behind : IsBehind packer (lengths_of chunks)
   pub indexed : index.chunks ≤ length chunks
   pub covers : Covers index (take index.chunks (names_of chunks))
+
+-- the containers of the chunks from this number on were appended to since the last flush
+abbrev pub AreUnflushed : ℕ → List Spot → Packer → Type 0
+AreUnflushed number lie packer =
+    (i : ℕ) (none : Spot) → number ≤ i → i < length lie → IsUnflushed packer (slice_index_or lie i none).container

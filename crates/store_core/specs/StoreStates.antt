@@ -16,7 +16,7 @@ use Rattle.sd_base.specs.declared.record.NewChunk.{NewChunk}
 use Rattle.store_core.specs.StoreFields.{lengths_of}
 
 -- a store: what it opened as, with what was committed since; the chunks that were offered since the
--- last commit; and whether it may be used
+-- last commit; and whether `offer` and `commit` may be called
 pub record StoreState : Type 0 where
   pub opened : Opened
   pub offered : List NewChunk
@@ -26,24 +26,25 @@ pub record StoreState : Type 0 where
 abbrev pub chunks_of_store : StoreState → List NewChunk
 chunks_of_store store = chunks_in store.opened.book.sessions ++ store.offered
 
--- chunk i, or none of any length
+-- chunk i; if there is none, one of length 0 with an empty name
 abbrev pub kept_chunk : StoreState → ℕ → NewChunk
 kept_chunk store i = slice_index_or (chunks_of_store store) i (record { length = 0; name = [] })
 
--- where chunk i lies
+-- where chunk i lies; if there is none, offset 0 of container 0
 abbrev pub spot_of_chunk : StoreState → ℕ → Spot
 spot_of_chunk store i =
     slice_index_or (spots_of (lengths_of (chunks_of_store store))) i (record { container = 0; offset = 0 })
 
--- the bytes of chunk i as they are read: fewer than its length if its container ends before
+-- the bytes of chunk i as they are read: fewer than its length if its container ends too early
 abbrev pub chunk_as_read : (File → List ℕ) → StoreState → ℕ → List ℕ
 chunk_as_read files store i =
     let spot = spot_of_chunk store i in
     take (kept_chunk store i).length (drop spot.offset (files (Container store.opened.head.generation spot.container)))
 
--- The store stands for a state, with these chunks offered, on a shelf with these files: the files
--- hold the state, and the containers begin with its chunks and those offered. No two of them are
--- equal.
+-- A store over these files stands for a state, with these chunks offered. The state is lawful, and
+-- the store has its parameters, generation and book. The chunks that were offered to the store are
+-- these. The files hold the state. The containers begin with the packing of its chunks followed by
+-- those offered, and no two of these chunks are equal.
 pub record StandsFor (name_of : List ℕ → List ℕ) (store : StoreState) (files : File → List ℕ)
     (state : State) (offered : List (List ℕ)) : Type 0 where
   pub lawful : IsLawful state

@@ -1,5 +1,5 @@
--- Opening has one verdict: files hold no store, or they have one first damage, or they open as one
--- store.
+-- Opening has at most one verdict: files hold no store, or they have one first damage, or they open
+-- as one store. Which lawful state they hold, if one, is then fixed too.
 use Rattle.std.specs.Prelude.{◌≡◌, ℕ, List}
 use Rattle.sd_base.specs.Opening.{IsOpeningDamage, OpenAs, Opened}
 use Rattle.sd_base.specs.States.{IsLawful, State}
@@ -38,3 +38,10 @@ abbrev pub HeldStatesAreUndamaged : Type 0
 HeldStatesAreUndamaged =
     (name_of : List ℕ → List ℕ) (files : File → List ℕ) (state : State) (damage : Damage) →
     GivesNames name_of → IsLawful state → HoldState name_of files state → IsOpeningDamage files damage → ⊥
+
+-- files hold at most one lawful state
+abbrev pub HoldOneState : Type 0
+HoldOneState =
+    (name_of : List ℕ → List ℕ) (files : File → List ℕ) (first second : State) →
+    GivesNames name_of → IsLawful first → IsLawful second →
+    HoldState name_of files first → HoldState name_of files second → first ≡ second

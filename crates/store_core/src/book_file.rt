@@ -5,6 +5,7 @@ ghost use Rattle.sd_base.specs.Books.{IsBookDamage, IsReplay};
 ghost use Rattle.sd_base.specs.declared.damage.Damage.{Damage};
 ghost use Rattle.sd_base.specs.declared.file.File.TheVariants.{Book as BookFile, Seal};
 ghost use Rattle.store_core.specs.BookFiles.{stated_record, whole_len};
+ghost use Rattle.store_core.specs.Faults.{IsOfOpening};
 ghost use Rattle.store_core.specs.Heads.{OnlyOpens};
 ghost use Rattle.store_core.specs.Shelves.{OnlyReads};
 
@@ -31,6 +32,7 @@ pub(crate) fn read_book<F: Shelf>(
     ensures replayed { IfOk result (λ book. (bytes : List ℕ) × (n : ℕ) × IsReplay max bytes n book) }
     ensures damaged { (damage : Damage) → result ≡ Err (StoreFault.Damaged damage)
         → IfSome (F.files shelf.old) (λ files. IsBookDamage max (files (BookFile generation)) (length (files (Seal generation))) damage) }
+    ensures kind { (damage : Damage) → result ≡ Err (StoreFault.Damaged damage) → IsOfOpening damage }
     ensures refused { OnErr result (OnlyOpens result) }
     ensures no_store { result ≡ Err StoreFault.NoStore → ⊥ }
 

@@ -8,9 +8,9 @@ ghost use Rattle.sd_base.specs.declared.limits.TheConstants.{COMMIT_BYTE};
 ghost use Rattle.store_core.specs.Commits.{AreFlushed, CommitsNothing, CommitsRecord};
 ghost use Rattle.store_core.specs.Shelves.{CountsFaults};
 
+use crate::commit_byte::append_commit_byte;
 use container_pack::Packer;
 use edge_traits::{EdgeFault, File, Shelf};
-use sd_base::COMMIT_BYTE;
 
 /// Commits the bytes of a record, which come after the first `used` bytes of the book. All that
 /// they count on is flushed before the byte of the seal that commits them is appended.
@@ -38,7 +38,7 @@ pub(crate) fn commit_bytes<F: Shelf>(
     ensures counts { CountsFaults (IsErrOf result EdgeFault.Failed) F.faults F.faultless shelf.old shelf.new }
 {
     write_record(shelf, packer, generation, used, bytes)?;
-    append_seal(shelf, generation)
+    append_commit_byte(shelf, File::Seal(generation))
 }
 
 // Writes a record into the book and flushes it, after the containers.
@@ -68,22 +68,4 @@ fn write_record<F: Shelf>(
     shelf.append(book, bytes)?;
     packer.flush(shelf)?;
     shelf.flush(book)
-}
-
-// Appends the byte to the seal that commits a record, and flushes it.
-fn append_seal<F: Shelf>(shelf: &mut F, generation: u32) -> Result<(), EdgeFault>
-    ensures appended { OnOk result
-        (Appended (Seal generation) (COMMIT_BYTE ∷ []) (F.files shelf.old) (F.files shelf.new)) }
-    ensures sealed { OnOk result (F.loose shelf.new (Seal generation) ≡ false) }
-    ensures refused { OnErr result
-        ((content (F.files shelf.new) (Seal generation) ≡ content (F.files shelf.old) (Seal generation))
-        ⊎ Appended (Seal generation) (COMMIT_BYTE ∷ []) (F.files shelf.old) (F.files shelf.new)) }
-    ensures other_files { ChangesOnly (Seal generation) (F.files shelf.old) (F.files shelf.new) }
-    ensures other_loose { (f : File) → f ≢ Seal generation → F.loose shelf.new f ≡ F.loose shelf.old f }
-
-    ensures counts { CountsFaults (IsErrOf result EdgeFault.Failed) F.faults F.faultless shelf.old shelf.new }
-{
-    let seal = File::Seal(generation);
-    shelf.append(seal, &[COMMIT_BYTE])?;
-    shelf.flush(seal)
 }

@@ -5,6 +5,7 @@ ghost use Rattle.sd_base.specs.declared.damage.Damage.{Damage};
 ghost use Rattle.sd_base.specs.declared.file.File.TheVariants.{Container};
 ghost use Rattle.sd_base.specs.declared.limits.TheConstants.{MAX_CHUNKS};
 ghost use Rattle.store_core.specs.Containers.{IsFirstShort, OnlyFinds};
+ghost use Rattle.store_core.specs.Faults.{IsOfOpening};
 ghost use Rattle.store_core.specs.Shelves.{OnlyReads};
 
 use crate::StoreFault;
@@ -29,6 +30,7 @@ pub(crate) fn check_containers<F: Shelf>(
     ensures damaged { (damage : Damage) → result ≡ Err (StoreFault.Damaged damage)
         → IfSome (F.files shelf.old) (λ files.
         IsFirstShort files generation (container_sizes lengths.now) damage) }
+    ensures kind { (damage : Damage) → result ≡ Err (StoreFault.Damaged damage) → IsOfOpening damage }
     ensures refused { OnErr result (OnlyFinds result) }
 
     ensures reads { OnlyReads (result ≡ Err StoreFault.ShelfFault) F.files F.loose F.faults F.faultless

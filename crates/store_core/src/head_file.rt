@@ -8,6 +8,7 @@ ghost use Rattle.sd_base.specs.Stores.{HoldNoStore};
 ghost use Rattle.sd_base.specs.declared.damage.Damage.{Damage};
 ghost use Rattle.sd_base.specs.declared.file.File.TheVariants.{Head};
 ghost use Rattle.sd_base.specs.declared.limits.TheConstants.{SETTINGS_LEN};
+ghost use Rattle.store_core.specs.Faults.{IsOfOpening};
 ghost use Rattle.store_core.specs.Heads.{AreNoSettings, head_state, OnlyOpens};
 ghost use Rattle.store_core.specs.Shelves.{OnlyReads};
 
@@ -30,6 +31,7 @@ pub(crate) fn read_head<F: Shelf>(shelf: &mut F) -> Result<StoreHead, StoreFault
     ensures no_store { result ≡ Err StoreFault.NoStore → IfSome (F.files shelf.old) HoldNoStore }
     ensures damaged { (damage : Damage) → result ≡ Err (StoreFault.Damaged damage)
         → IfSome (F.files shelf.old) (λ files. IsHeadDamage files damage) }
+    ensures kind { (damage : Damage) → result ≡ Err (StoreFault.Damaged damage) → IsOfOpening damage }
     ensures refused { OnErr result (OnlyOpens result) }
 
     ensures reads { OnlyReads (result ≡ Err StoreFault.ShelfFault) F.files F.loose F.faults F.faultless

@@ -4,11 +4,13 @@
 //!
 //! `init` makes a store and `Store::open` opens one. A store is held to the verdict of opening that
 //! `sd_base` defines: what is first found wrong is named, in the order head, records, recipes,
-//! containers. No files have two verdicts (`opening_has_one_verdict`).
+//! containers. No files have two verdicts (`opening_has_one_verdict`), and none hold two states
+//! (`files_hold_one_state`).
 #![tactic(auto)]
 
 mod book_file;
 mod chunk_list;
+mod commit_byte;
 mod commit_files;
 mod containers;
 mod fault;
@@ -20,7 +22,7 @@ mod settings;
 mod store;
 
 pub use fault::StoreFault;
-pub use laws::{held_states_are_undamaged, opening_has_one_verdict};
+pub use laws::{files_hold_one_state, held_states_are_undamaged, opening_has_one_verdict};
 pub use new_store::init;
 pub use settings::settings_of;
 pub use store::Store;

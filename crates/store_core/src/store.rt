@@ -7,6 +7,7 @@ ghost use Rattle.sd_base.specs.States.{IsLawful, State};
 ghost use Rattle.sd_base.specs.Stores.{HoldNoStore, HoldState};
 ghost use Rattle.sd_base.specs.declared.damage.Damage.{Damage};
 ghost use Rattle.sd_base.specs.declared.limits.TheConstants.{MAX_CHUNK_LEN, MAX_CHUNKS};
+ghost use Rattle.store_core.specs.Faults.{IsOfOpening};
 ghost use Rattle.store_core.specs.Heads.{OnlyOpens, head_state};
 ghost use Rattle.store_core.specs.Shelves.{OnlyReads};
 ghost use Rattle.store_core.specs.StoreStates.{StandsFor, chunk_as_read, chunks_of_store, kept_chunk};
@@ -49,10 +50,10 @@ pub struct Store<N: Namer> {
 }
 
 impl<N: Namer> Model for Store<N> {
-    ghost use Rattle.std.specs.Prelude.{◌≡◌, ◌++◌};
+    ghost use Rattle.std.specs.Prelude.{◌≡◌, ◌++◌, length};
     ghost use Rattle.sd_base.specs.Books.{chunks_in};
     ghost use Rattle.sd_base.specs.Params.{numbers_of};
-    ghost use Rattle.store_core.specs.StoreFields.{ArePlaced};
+    ghost use Rattle.store_core.specs.StoreFields.{ArePlaced, AreUnflushed};
     ghost use Rattle.store_core.specs.StoreStates.{StoreState};
 
     ghost Value = { StoreState };
@@ -67,7 +68,8 @@ impl<N: Namer> Model for Store<N> {
     } };
 
     ghost invariant = { λ store. (store.book.max ≡ store.params.max)
-        × ArePlaced (chunks_in store.book.sessions ++ store.offered.items) store.generation store.spots.items store.packer store.index };
+        × ArePlaced (chunks_in store.book.sessions ++ store.offered.items) store.generation store.spots.items store.packer store.index
+        × AreUnflushed (length (chunks_in store.book.sessions)) store.spots.items store.packer };
 }
 
 impl<N: Namer> Store<N> {
@@ -81,6 +83,7 @@ impl<N: Namer> Store<N> {
         ensures damaged { (damage : Damage) → result ≡ Err (StoreFault.Damaged damage)
             → IfSome (F.files shelf.old) (λ files. IsOpeningDamage files damage) }
         ensures refused { OnErr result (OnlyOpens result) }
+        ensures kind { (damage : Damage) → result ≡ Err (StoreFault.Damaged damage) → IsOfOpening damage }
         ensures fresh { IfOk result (λ store. (store.offered ≡ []) × (store.sound ≡ true)) }
 
         // If the files hold a state, the store stands for it, with nothing offered.
@@ -120,7 +123,7 @@ impl<N: Namer> Store<N> {
         &self.book
     }
 
-    /// Whether the store may be used: true until a call of `offer` or `commit` returns `Damaged`,
+    /// Whether `offer` and `commit` may be called: true until one of them returns `Damaged`,
     /// `ShelfFault` or `OutOfMemory`.
     pub fn is_sound(&self) -> bool
         ensures sound { result ≡ self.now.sound }
@@ -203,3 +206,6 @@ fn opened_store<N: Namer>(
         is_sound: true,
     })
 }
+
+#[cfg(test)]
+mod tests;

@@ -6,7 +6,7 @@ use session_book::encode_record;
 use std::test::Fail;
 
 /// The parameters under which every window of zeros is a match.
-fn small_params() -> Result<Params, Fail> {
+pub(crate) fn small_params() -> Result<Params, Fail> {
     Ok(
         Params::new(0x8000_0000_0000_0001, 13, 0, 64, 256)
             .ok()
@@ -19,7 +19,7 @@ const SMALL_HEAD: &[u8] =
     b"SSCH\x01\0\x0d\0\x80\0\0\0\0\0\0\x01\0\0\0\0\0\0\0\x40\0\0\x01\0\0\0\0\0S";
 
 /// A shelf of which these calls fail.
-fn shelf_with(rt: &HostRuntime, failing: &[ShelfFail]) -> Result<MemShelf, Fail> {
+pub(crate) fn shelf_with(rt: &HostRuntime, failing: &[ShelfFail]) -> Result<MemShelf, Fail> {
     Ok(MemShelf::new(rt.alloc(), Vec::from_slice(rt.alloc(), failing)?))
 }
 
@@ -54,7 +54,7 @@ fn a_store_is_made_once_and_opens_empty(rt: HostRuntime) -> Result<(), Fail> {
 }
 
 /// The name of a session.
-fn name_of(bytes: &[u8]) -> Result<Name, Fail> {
+pub(crate) fn name_of(bytes: &[u8]) -> Result<Name, Fail> {
     Ok(Name::read(bytes).ok().ok_or("a name")?)
 }
 

@@ -1,13 +1,14 @@
 //! A session is committed to a store.
-ghost use Rattle.std.specs.Prelude.{◌≡◌, ◌⊎◌, ◌≤◌, [], ℕ, List, length as number_of, Err, None, false, IsTrue, IfOk, IfSome, IfNone, OnOk, OnErr};
+ghost use Rattle.std.specs.Prelude.{◌≡◌, ◌⊎◌, ◌≤◌, [], ℕ, List, length as number_of, Err, None, Some, false, IsTrue, IfOk, IfSome, IfNone, OnOk, OnErr};
 ghost use Rattle.std.specs.List.{All};
 ghost use Rattle.sd_base.specs.Books.{bytes_named, chunks_in};
 ghost use Rattle.sd_base.specs.Records.{IsIngest};
 ghost use Rattle.sd_base.specs.States.{IsCutting, State};
-ghost use Rattle.sd_base.specs.Stores.{HoldState};
-ghost use Rattle.sd_base.specs.declared.file.File.TheVariants.{Book, Seal};
+ghost use Rattle.sd_base.specs.Stores.{AreClean, HoldState};
+ghost use Rattle.sd_base.specs.declared.file.File.TheVariants.{Seal};
 ghost use Rattle.sd_base.specs.declared.limits.TheConstants.{MAX_CHUNKS};
-ghost use Rattle.store_core.specs.Commits.{CommitsIngest, CommitsNothing, OnlyFails, committed_state, committed_store, early_refusal, recipe_chunks, session_record};
+ghost use Rattle.store_core.specs.CleanFiles.{AreCleanWith};
+ghost use Rattle.store_core.specs.Commits.{AreFlushed, CommitsIngest, CommitsNothing, HasOffered, OnlyFails, committed_state, committed_store, early_refusal, recipe_chunks, session_record};
 ghost use Rattle.store_core.specs.Faults.{stays_sound};
 ghost use Rattle.store_core.specs.Recipes.{IsInOrder};
 ghost use Rattle.store_core.specs.Shelves.{CountsFaults};
@@ -63,9 +64,10 @@ impl<N: Namer> Store<N> {
             ⊎ CommitsIngest self.old (session_record self.old name.now length recipe.now)
             (F.files shelf.old) (F.files shelf.new)) }
 
-        // The record is flushed, and so is the byte that commits it.
-        ensures flushed { let generation = self.old.opened.head.generation in OnOk result
-            ((F.loose shelf.new (Book generation) ≡ false) × (F.loose shelf.new (Seal generation) ≡ false)) }
+        // The record and the offered chunks are flushed, and so is the byte that commits them.
+        ensures flushed { OnOk result
+            (AreFlushed self.old.opened.head.generation (HasOffered self.old) (F.loose shelf.new)) }
+        ensures sealed { OnOk result (F.loose shelf.new (Seal self.old.opened.head.generation) ≡ false) }
 
         // If the store stands for a state and the recipe names a cutting, it then stands for the state
         // with the session, and nothing is offered. After a fault the files hold one of the two.
@@ -76,6 +78,12 @@ impl<N: Namer> Store<N> {
             OnOk result (StandsFor N.name_of self.new after (committed_state state offered name.now recipe.now) [])
             × OnErr result (HoldState N.name_of after state
             ⊎ HoldState N.name_of after (committed_state state offered name.now recipe.now)))) }
+
+        // If the files had nothing but the state and the offered chunks, they are clean after Ok.
+        ensures clean { (state : State) (offered : List (List ℕ)) → IfSome (F.files shelf.old) (λ before.
+            StandsFor N.name_of self.old before state offered → AreCleanWith N.name_of before state offered
+            → OnOk result (IfSome (F.files shelf.new) (λ after.
+            AreClean N.name_of after (Some (committed_state state offered name.now recipe.now))))) }
 
         ensures counts { CountsFaults (result ≡ Err StoreFault.ShelfFault) F.faults F.faultless shelf.old shelf.new }
     {
@@ -119,8 +127,9 @@ impl<N: Namer> Store<N> {
             (self.new ≡ committed_store self.old (session_record self.old name.now length recipe.now)) }
         ensures written { OnOk result (CommitsIngest self.old (session_record self.old name.now length recipe.now)
             (F.files shelf.old) (F.files shelf.new)) }
-        ensures flushed { let generation = self.old.opened.head.generation in OnOk result
-            ((F.loose shelf.new (Book generation) ≡ false) × (F.loose shelf.new (Seal generation) ≡ false)) }
+        ensures flushed { OnOk result
+            (AreFlushed self.old.opened.head.generation (HasOffered self.old) (F.loose shelf.new)) }
+        ensures sealed { OnOk result (F.loose shelf.new (Seal self.old.opened.head.generation) ≡ false) }
         ensures lawful { OnOk result (IsIngest (session_record self.old name.now length recipe.now)) }
 
         ensures refused { OnErr result (OnlyFails result) }

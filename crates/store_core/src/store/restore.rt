@@ -7,6 +7,7 @@ ghost use Rattle.sd_base.specs.States.{State};
 ghost use Rattle.sd_base.specs.declared.damage.Damage.{Damage};
 ghost use Rattle.sd_base.specs.declared.damage.Damage.TheVariants.{Recipe};
 ghost use Rattle.store_core.specs.Containers.{OnlyFinds};
+ghost use Rattle.store_core.specs.Faults.{IsOfChunk};
 ghost use Rattle.store_core.specs.Offers.{IsReadDamaged};
 ghost use Rattle.store_core.specs.Restores.{FindsDamage, IsIntact, OnlyRestores, RestoresAll, RestoresPart, RestoresState, recipe_named, unknown_place};
 ghost use Rattle.store_core.specs.Shelves.{CountsFaults, OnlyReads};
@@ -15,7 +16,6 @@ ghost use Rattle.store_core.specs.StoreStates.{StandsFor, chunk_as_read, chunks_
 use super::Store;
 use crate::StoreFault;
 use chunk_names::Namer;
-use container_pack::read_chunk;
 use edge_traits::{EdgeFault, Shelf, Sink, write_all};
 use sd_base::{Damage, Name};
 
@@ -38,6 +38,8 @@ impl<N: Namer> Store<N> {
     ) -> Result<(), StoreFault>
         ensures no_session { (result ≡ Err StoreFault.NoSession) ↔ (live_session self.now.opened.book.sessions name.now ≡ None) }
         ensures refused { OnErr result (OnlyRestores result) }
+        ensures kind { (damage : Damage) → result ≡ Err (StoreFault.Damaged damage)
+            → unknown_place self.now (recipe_named self.now name.now) ≡ None → IsOfChunk damage }
 
         // Nothing is read or written if there is no such session, or if its recipe names no chunk at
         // some place.
@@ -45,6 +47,9 @@ impl<N: Namer> Store<N> {
         ensures unknown { (session place : ℕ) → live_session self.now.opened.book.sessions name.now ≡ Some session
             → unknown_place self.now (recipe_named self.now name.now) ≡ Some place
             → (result ≡ Err (StoreFault.Damaged (Recipe session place))) × (shelf.new ≡ shelf.old) × (sink.new ≡ sink.old) }
+
+        // If the recipe is empty, the sink is unchanged.
+        ensures nothing { recipe_named self.now name.now ≡ [] → sink.new ≡ sink.old }
 
         // The chunks are written as they are read, and only if they have their names.
         ensures restored { OnOk result (IfSome (F.files shelf.old) (λ files. RestoresAll N.name_of files
@@ -97,6 +102,7 @@ impl<N: Namer> Store<N> {
     ) -> Result<(), StoreFault>
         requires known { unknown_place self.now recipe.now ≡ None }
 
+        ensures nothing { recipe.now ≡ [] → sink.new ≡ sink.old }
         ensures restored { OnOk result (IfSome (F.files shelf.old) (λ files.
             RestoresAll N.name_of files self.now recipe.now (K.written sink.old) (K.written sink.new))) }
         ensures damaged { (damage : Damage) → result ≡ Err (StoreFault.Damaged damage)
@@ -104,6 +110,7 @@ impl<N: Namer> Store<N> {
             FindsDamage N.name_of files self.now recipe.now damage (K.written sink.old) (K.written sink.new)) }
         ensures prefix { OnErr result (IfSome (F.files shelf.old) (λ files.
             RestoresPart N.name_of files self.now recipe.now (K.written sink.old) (K.written sink.new))) }
+        ensures kind { (damage : Damage) → result ≡ Err (StoreFault.Damaged damage) → IsOfChunk damage }
         ensures refused { OnErr result (OnlyRestores result) }
         ensures session { result ≡ Err StoreFault.NoSession → ⊥ }
 
@@ -133,6 +140,7 @@ impl<N: Namer> Store<N> {
             FindsDamage N.name_of files self.now (number ∷ []) damage (K.written sink.old) (K.written sink.new)) }
         ensures prefix { OnErr result (IfSome (F.files shelf.old) (λ files.
             RestoresPart N.name_of files self.now (number ∷ []) (K.written sink.old) (K.written sink.new))) }
+        ensures kind { (damage : Damage) → result ≡ Err (StoreFault.Damaged damage) → IsOfChunk damage }
         ensures refused { OnErr result (OnlyRestores result) }
         ensures session { result ≡ Err StoreFault.NoSession → ⊥ }
 
@@ -153,15 +161,14 @@ impl<N: Namer> Store<N> {
         ensures intact { IfOk result (λ chunk. N.name_of chunk.items ≡ (kept_chunk self.now number).name) }
         ensures damaged { (damage : Damage) → result ≡ Err (StoreFault.Damaged damage)
             → IfSome (F.files shelf.old) (λ files. IsReadDamaged N.name_of files self.now number damage) }
+        ensures kind { (damage : Damage) → result ≡ Err (StoreFault.Damaged damage) → IsOfChunk damage }
         ensures refused { OnErr result (OnlyFinds result) }
 
         ensures reads { OnlyReads (result ≡ Err StoreFault.ShelfFault) F.files F.loose F.faults F.faultless
             shelf.old shelf.new }
     {
-        let kept = self.chunk(number);
-        let spot = self.spots[number as usize];
-        let chunk = read_chunk(self.alloc, shelf, self.generation, spot, kept.length)?;
-        let (kept, found) = (kept.name, self.namer.name(&chunk));
+        let chunk = self.read(shelf, number)?;
+        let (kept, found) = (self.chunk(number).name, self.namer.name(&chunk));
         if found != kept {
             return Err(StoreFault::Damaged(Damage::Chunk {
                 number,

@@ -4,7 +4,7 @@ use Rattle.edge_traits.specs.Shelf.{content}
 use Rattle.sd_base.specs.Books.{IsBookDamage}
 use Rattle.store_core.specs.BookFiles.{whole_len}
 use Rattle.sd_base.specs.declared.file.File.TheVariants.{Book as BookFile}
-use Rattle.store_core.proofs.OpeningLemmas.{damage-files, damage-of_fault, replay-files}
+use Rattle.store_core.proofs.OpeningLemmas.{book-kind, damage-files, damage-of_fault, replay-files}
 use Rattle.store_core.proofs.book_file.read_book.Goals as goal
 
 pub returns-in_err-replay-clause-damaged : goal.returns-in_err-replay-clause-damaged
@@ -25,3 +25,9 @@ returns-clause-committed g c =
     (g.F.Shelf.files c.args.shelf.now) (g.F.Shelf.files c.len.new.self) c.in_ok-replay.field-0 c.in_ok-records.ensures.length
     (c.in_ok-records.ensures.same_files (BookFile c.args.generation)) front
     ((c.in_ok-replay.ensures.whole c.in_ok-replay.field-0).0 refl)
+
+pub returns-in_err-replay-clause-kind : goal.returns-in_err-replay-clause-kind
+returns-in_err-replay-clause-kind g c = λ damage is.
+    book-kind c.args.max c.deref.result.now c.in_ok-records.records damage
+    (damage-of_fault _ c.in_err-replay.field-0.0 c.from_residual-in_err-replay.result damage (IsBookDamage c.args.max c.deref.result.now c.in_ok-records.records) is
+    c.from_residual-in_err-replay.ensures.1 c.in_err-replay.ensures.damaged)

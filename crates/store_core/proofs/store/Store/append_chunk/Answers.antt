@@ -2,9 +2,12 @@ use Rattle.std.proofs.Common.{◌++◌, ◌∷◌, [], List, length, arith, ap, 
 use Rattle.container_pack.specs.declared.spot.Spot.{Spot}
 use Rattle.sd_base.specs.Books.{chunks_in}
 use Rattle.sd_base.specs.declared.record.NewChunk.{NewChunk}
-use Rattle.store_core.specs.StoreFields.{ArePlaced, lengths_of}
+use Rattle.store_core.specs.StoreFields.{ArePlaced, AreUnflushed, lengths_of}
 use Rattle.store_core.specs.StoreStates.{StoreState, chunks_of_store}
+use Rattle.store_core.proofs.CleanLemmas.{exact-appended, packed-appended}
 use Rattle.store_core.proofs.FieldLemmas.{no-container, placed-one_more}
+use Rattle.store_core.proofs.OfferLemmas.{begin-fewer}
+use Rattle.store_core.proofs.SessionLemmas.{unflushed-one_more}
 use Rattle.store_core.proofs.store.Store.append_chunk.Goals as goal
 
 pub returns-in_err-spot-clause-other_files : goal.returns-in_err-spot-clause-other_files
@@ -36,4 +39,30 @@ invariant_of-self-2 g c =
           (omega (arith, c.if-number-ge-MAX_CHUNKS.false, c.count-number.ensures.count, count)) c.requires.bounded
           c.append_chunk.ensures.generation (c.in_ok-spot.ensures.placed (lengths_of chunks) placed.behind)
           (c.in_ok-spot.ensures.behind (lengths_of chunks) placed.behind))),
+      subst (λ (l : List Spot). AreUnflushed (length committed) l c.append_chunk.new.self) (sym spots)
+          (unflushed-one_more (length committed) inside.spots.items spot inside.packer c.append_chunk.new.self c.self.invariant.2
+          c.in_ok-spot.ensures.unflushed),
     )
+
+pub returns-clause-packed : goal.returns-clause-packed
+returns-clause-packed g c =
+    let inside = c.self.inside in
+    packed-appended c.args.self.now inside.spots.items inside.packer c.append_chunk.new.self inside.index
+    (subst (λ (s : StoreState). ArePlaced (chunks_of_store s) s.opened.head.generation inside.spots.items inside.packer inside.index)
+    c.self.view_is c.self.invariant.1)
+    (g.F.Shelf.files c.args.shelf.now) (g.F.Shelf.files c.append_chunk.new.shelf) c.args.chunk.now
+    c.append_chunk.ensures.generation c.in_ok-spot.ensures.packed
+
+pub returns-clause-still_packed : goal.returns-clause-still_packed
+returns-clause-still_packed g c = λ chunks lengths begin.
+    begin-fewer (g.F.Shelf.files c.append_chunk.new.shelf) c.args.self.now.opened.head.generation chunks (c.args.chunk.now ∷ [])
+    (returns-clause-packed g c chunks lengths begin)
+
+pub returns-clause-exact : goal.returns-clause-exact
+returns-clause-exact g c =
+    let inside = c.self.inside in
+    exact-appended c.args.self.now inside.spots.items inside.packer inside.index
+    (subst (λ (s : StoreState). ArePlaced (chunks_of_store s) s.opened.head.generation inside.spots.items inside.packer inside.index)
+    c.self.view_is c.self.invariant.1)
+    (g.F.Shelf.files c.args.shelf.now) (g.F.Shelf.files c.append_chunk.new.shelf) c.args.chunk.now c.requires.not_empty
+    c.in_ok-spot.spot c.in_ok-spot.ensures.spot c.in_ok-spot.ensures.ends c.append_chunk.ensures.other_files

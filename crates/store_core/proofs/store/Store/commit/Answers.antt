@@ -2,6 +2,7 @@ use Rattle.std.proofs.Common.{inl, refl, sym, ◌∙◌}
 use Rattle.container_pack.proofs.ShelfLemmas.{KeepsFront-same}
 use Rattle.sd_base.specs.declared.file.File.TheVariants.{Book}
 use Rattle.store_core.specs.Commits.{session_record}
+use Rattle.store_core.proofs.CleanCommits.{commit-clean}
 use Rattle.store_core.proofs.CommitLemmas.{commit-stands, committed-sound}
 use Rattle.store_core.proofs.store.Store.commit.Goals as goal
 
@@ -26,3 +27,9 @@ returns-in-Some-clause-not_written g c =
       book = KeepsFront-same (Book held.head.generation) held.book.used files files refl;
       others = λ f apart. refl;
     })
+
+pub returns-clause-clean : goal.returns-clause-clean
+returns-clause-clean g c =
+    commit-clean g.N.Namer.name_of c.args.self.now (g.F.Shelf.files c.args.shelf.now)
+    (g.F.Shelf.files c.commit_session-outcome.new.shelf) c.args.recipe.now c.args.name.now c.args.length
+    c.commit_session-outcome.result c.requires.in_order c.requires.sums c.commit_session-outcome.ensures.written

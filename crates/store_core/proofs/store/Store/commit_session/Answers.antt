@@ -1,13 +1,15 @@
-use Rattle.std.proofs.Common.{◌≡◌, ◌≤◌, inl, ap, subst, sym, ◌∙◌}
+use Rattle.std.proofs.Common.{◌≡◌, ◌≤◌, inl, ap, subst, sym, ◌∙◌, length}
 use Rattle.std.specs.List.{All}
+use Rattle.container_pack.specs.Packer.{IsUnflushed}
 use Rattle.container_pack.proofs.PackerLemmas.{on_err}
-use Rattle.sd_base.specs.Books.{BookState, MayIngest}
+use Rattle.sd_base.specs.Books.{chunks_in, BookState, MayIngest}
 use Rattle.sd_base.specs.Records.{IsIngestWithinLimits}
 use Rattle.sd_base.specs.declared.record.IngestRecord.{IngestRecord}
 use Rattle.sd_base.specs.declared.record.NewChunk.{NewChunk}
-use Rattle.store_core.specs.StoreFields.{ArePlaced}
+use Rattle.store_core.specs.StoreFields.{ArePlaced, AreUnflushed}
+use Rattle.store_core.specs.Commits.{AreFlushed}
 use Rattle.store_core.specs.StoreStates.{StoreState, chunks_of_store}
-use Rattle.store_core.proofs.SessionLemmas.{nothing-committed, placed-committed, session-follows, session-within}
+use Rattle.store_core.proofs.SessionLemmas.{nothing-committed, placed-committed, session-follows, session-within, committed-unflushed, offered-flushed}
 use Rattle.store_core.proofs.store.Store.commit_session.Goals as goal
 
 pub returns-in_err-session_record-clause-not_written : goal.returns-in_err-session_record-clause-not_written
@@ -45,12 +47,15 @@ invariant_of-self-in_err-commit_bytes g c =
     let inside = c.self.inside in
     let added = c.in_ok-add.ensures.added in
     let fresh = ap (λ (entry : IngestRecord). entry.fresh) c.in_ok-session_record.ensures
-    ∙ ap (λ (s : StoreState). s.offered) (sym c.self.view_is) in (
+    ∙ ap (λ (s : StoreState). s.offered) (sym c.self.view_is) in
+    let placed = placed-committed inside.book.sessions c.add.new.self.sessions c.in_ok-session_record.field-0
+    inside.offered.items c.clear.new.self.items inside.generation inside.spots.items inside.packer
+    c.commit_bytes.new.packer inside.index c.self.invariant.1 (ap (λ (book : BookState). book.sessions) added) fresh
+    c.clear.ensures.items c.commit_bytes.ensures.generation c.commit_bytes.ensures.behind in (
       ap (λ (book : BookState). book.max) added ∙ c.self.invariant.0,
-      placed-committed inside.book.sessions c.add.new.self.sessions c.in_ok-session_record.field-0 inside.offered.items
-          c.clear.new.self.items inside.generation inside.spots.items inside.packer c.commit_bytes.new.packer inside.index
-          c.self.invariant.1 (ap (λ (book : BookState). book.sessions) added) fresh c.clear.ensures.items
-          c.commit_bytes.ensures.generation c.commit_bytes.ensures.behind,
+      placed,
+      committed-unflushed (chunks_in c.add.new.self.sessions) c.clear.new.self.items inside.generation inside.spots.items
+          c.commit_bytes.new.packer inside.index placed c.clear.ensures.items,
     )
 
 pub invariant_of-self-2 : goal.invariant_of-self-2
@@ -58,10 +63,26 @@ invariant_of-self-2 g c =
     let inside = c.self.inside in
     let added = c.in_ok-add.ensures.added in
     let fresh = ap (λ (entry : IngestRecord). entry.fresh) c.in_ok-session_record.ensures
-    ∙ ap (λ (s : StoreState). s.offered) (sym c.self.view_is) in (
+    ∙ ap (λ (s : StoreState). s.offered) (sym c.self.view_is) in
+    let placed = placed-committed inside.book.sessions c.add.new.self.sessions c.in_ok-session_record.field-0
+    inside.offered.items c.clear.new.self.items inside.generation inside.spots.items inside.packer
+    c.commit_bytes.new.packer inside.index c.self.invariant.1 (ap (λ (book : BookState). book.sessions) added) fresh
+    c.clear.ensures.items c.commit_bytes.ensures.generation c.commit_bytes.ensures.behind in (
       ap (λ (book : BookState). book.max) added ∙ c.self.invariant.0,
-      placed-committed inside.book.sessions c.add.new.self.sessions c.in_ok-session_record.field-0 inside.offered.items
-          c.clear.new.self.items inside.generation inside.spots.items inside.packer c.commit_bytes.new.packer inside.index
-          c.self.invariant.1 (ap (λ (book : BookState). book.sessions) added) fresh c.clear.ensures.items
-          c.commit_bytes.ensures.generation c.commit_bytes.ensures.behind,
+      placed,
+      committed-unflushed (chunks_in c.add.new.self.sessions) c.clear.new.self.items inside.generation inside.spots.items
+          c.commit_bytes.new.packer inside.index placed c.clear.ensures.items,
     )
+
+pub returns-clause-flushed : goal.returns-clause-flushed
+returns-clause-flushed g c =
+    let inside = c.self.inside in
+    let now = c.args.self.now in
+    let loose = g.F.Shelf.loose c.commit_bytes.new.shelf in
+    offered-flushed now now.opened.head.generation inside.spots.items inside.packer inside.index loose
+    (subst (λ (s : StoreState). ArePlaced (chunks_of_store s) s.opened.head.generation inside.spots.items inside.packer inside.index)
+    c.self.view_is c.self.invariant.1)
+    (subst (λ (s : StoreState). AreUnflushed (length (chunks_in s.opened.book.sessions)) inside.spots.items inside.packer)
+    c.self.view_is c.self.invariant.2)
+    (subst (λ (s : StoreState). AreFlushed s.opened.head.generation (IsUnflushed inside.packer) loose)
+    c.self.view_is c.in_ok-commit_bytes.ensures.flushed)

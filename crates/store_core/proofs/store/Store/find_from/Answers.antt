@@ -1,6 +1,6 @@
 use Rattle.std.proofs.Common.{rules, ◌+◌, arith, sym, subst, ◌∙◌}
 use Rattle.std.specs.Prelude.{IfSome}
-use Rattle.store_core.specs.Offers.{IsFoundDamaged, IsIntact, IsLeastSame, IsNewBelow, IsReadDamaged, IsSame}
+use Rattle.store_core.specs.Offers.{IsFoundDamaged, IsIntactIfNamed, IsLeastSame, IsNewBelow, IsReadDamaged, IsSame}
 use Rattle.store_core.proofs.FindLemmas.{none-below, none-next}
 use Rattle.store_core.proofs.StoreLemmas.{Told, damaged-passed, if_told, same-told, told_map, told_map2}
 use Rattle.store_core.proofs.store.Store.find_from.Goals as goal
@@ -35,6 +35,11 @@ returns-in_err-is_same-clause-damaged g c = λ damage is.
     (subst (λ (t : Told). IfSome t (λ files. IsReadDamaged g.N.Namer.name_of files store k damage))
     (same-told old now c.loop-number.invariant.reads.same_files) found.1)
 
+pub returns-in_err-is_same-clause-damage : goal.returns-in_err-is_same-clause-damage
+returns-in_err-is_same-clause-damage g c = λ damage is.
+    c.in_err-is_same.ensures.damage damage
+    (damaged-passed c.in_err-is_same.field-0.0 c.from_residual.result damage is c.from_residual.ensures.1)
+
 pub returns-then-branch-clause-least : goal.returns-then-branch-clause-least
 returns-then-branch-clause-least g c =
     let old = g.F.Shelf.files c.args.shelf.now in
@@ -58,15 +63,15 @@ loop-number-preserved g c =
     record {
       reads = search rules;
       new = told_map2 {P = λ files. IsNewBelow g.N.Namer.name_of files store c.args.chunk.now k}
-          {Q = λ files. (IsSame g.N.Namer.name_of files store c.args.chunk.now k → ⊥) × IsIntact g.N.Namer.name_of files store c.args.chunk.now k}
+          {Q = λ files. (IsSame g.N.Namer.name_of files store c.args.chunk.now k → ⊥) × IsIntactIfNamed g.N.Namer.name_of files store c.args.chunk.now k}
           {R = λ files. IsNewBelow g.N.Namer.name_of files store c.args.chunk.now (k + 1)}
           old (λ files new this. none-next g.N.Namer.name_of files store c.args.chunk.now c.args.name.now c.requires.named k new this.0 this.1)
           c.loop-number.invariant.new
           (subst (λ (t : Told). IfSome t (λ files. (IsSame g.N.Namer.name_of files store c.args.chunk.now k → ⊥)
-          × IsIntact g.N.Namer.name_of files store c.args.chunk.now k))
+          × IsIntactIfNamed g.N.Namer.name_of files store c.args.chunk.now k))
           (same-told old now c.loop-number.invariant.reads.same_files)
           (told_map2 {P = λ files. IsSame g.N.Namer.name_of files store c.args.chunk.now k → ⊥}
-          {Q = λ files. IsIntact g.N.Namer.name_of files store c.args.chunk.now k}
+          {Q = λ files. IsIntactIfNamed g.N.Namer.name_of files store c.args.chunk.now k}
           now (λ files other intact. (other, intact))
           (told_map now (λ files is. is c.if-branch.false) c.in_ok-is_same.ensures.other)
           (told_map now (λ files is. is c.if-branch.false) c.in_ok-is_same.ensures.intact)));

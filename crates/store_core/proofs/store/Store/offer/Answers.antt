@@ -2,7 +2,7 @@ use Rattle.std.proofs.Common.{subst, sym}
 use Rattle.std.specs.Prelude.{IfOk, IfSome}
 use Rattle.store_core.specs.Offers.{IsOffered}
 use Rattle.store_core.specs.StoreStates.{StandsFor, StoreState}
-use Rattle.store_core.proofs.OfferSteps.{offered-sound}
+use Rattle.store_core.proofs.OfferSteps.{offered-sound, refused-stands}
 use Rattle.store_core.proofs.store.Store.offer.Goals as goal
 
 pub returns-clause-stands : goal.returns-clause-stands
@@ -15,3 +15,9 @@ returns-clause-stands g c = λ state offered.
     (sym c.self.view_is)
     (offered-sound g.N.Namer.name_of c.args.self.now c.find_or_append-outcome.new.self c.stays_sound-self-inside.result
     state offered c.args.chunk.now old now c.find_or_append-outcome.result (c.find_or_append-outcome.ensures.stands state offered))
+
+pub returns-clause-stands_refused : goal.returns-clause-stands_refused
+returns-clause-stands_refused g c = λ state offered.
+    let done = c.find_or_append-outcome in
+    refused-stands _ g.N.Namer.name_of c.args.self.now (g.F.Shelf.files c.args.shelf.now) c.args.chunk.now done.ensures.some
+    state offered done.result done.ensures.refused done.ensures.damaged done.ensures.too_many

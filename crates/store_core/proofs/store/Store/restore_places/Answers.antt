@@ -33,6 +33,7 @@ returns-in_err-restore_chunk-clause-prefix g c =
 
 pub loop-number-preserved : goal.loop-number-preserved
 loop-number-preserved g c = record {
+  unchanged = search rules;
   reads = search rules;
   counts = search rules;
   restored =

@@ -6,9 +6,8 @@ use Rattle.edge_traits.specs.Shelf.{Appended, AppendedPrefix, SameFiles, content
 use Rattle.edge_traits.specs.declared.fault.EdgeFault.{EdgeFault}
 use Rattle.edge_traits.specs.declared.fault.EdgeFault.TheVariants.{Failed, OutOfMemory}
 use Rattle.sd_base.specs.declared.file.File.{File}
-use Rattle.sd_base.specs.declared.file.File.TheVariants.{Seal}
 use Rattle.sd_base.specs.declared.limits.TheConstants.{COMMIT_BYTE}
-use Rattle.store_core.proofs.commit_files.append_seal.Goals as goal
+use Rattle.store_core.proofs.commit_byte.append_commit_byte.Goals as goal
 
 nothing_appended : (held : Option (List ℕ)) → option_map (λ had. had ++ []) held ≡ held
 nothing_appended None = refl
@@ -29,6 +28,6 @@ refused file b before after OutOfMemory prefix same = inl (same refl file)
 
 pub returns-in_err-append-clause-refused : goal.returns-in_err-append-clause-refused
 returns-in_err-append-clause-refused g c = on_err c.from_residual.result
-    (refused (Seal c.args.generation) COMMIT_BYTE (g.F.Shelf.files c.args.shelf.now) (g.F.Shelf.files c.append.new.self)
+    (refused c.args.file COMMIT_BYTE (g.F.Shelf.files c.args.shelf.now) (g.F.Shelf.files c.append.new.self)
     c.in_err-append.field-0.0 (λ failed. c.in_err-append.ensures.prefix (ap Err failed))
     (λ none. c.in_err-append.ensures.out_of_memory (ap Err none)))
