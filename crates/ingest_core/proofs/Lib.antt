@@ -1,0 +1,22 @@
+-- In reading order. The folders beside this file have the answers of single functions.
+
+-- inputs of sources that may be observable
+mod Inputs
+-- faults that are passed on
+mod FaultLemmas
+-- a recipe in order, and one entry more
+mod RecipeLemmas
+-- chunks that are offered one after another
+mod OfferLemmas
+-- a part of an input that was offered
+mod PartLemmas
+-- why the definition refuses an ingest
+mod Refusals
+-- an input that is taken into a store that stands for a state
+mod TakingLemmas
+-- an ingest goes by the committed records
+mod BookLemmas
+-- a store that is opened over files that hold a state
+mod OpeningLemmas
+-- the parts of an ingest, put together
+mod Runs

@@ -1,0 +1,10 @@
+-- The definitions that contracts cite, in reading order.
+
+-- what faults of the layers below mean to an ingest, and the outcome of each fault
+pub mod Faults
+-- what an ingest does by the committed records
+pub mod ByBook
+-- what an ingest does
+pub mod Ingests
+-- what becomes of the chunks of an input
+pub mod Offering
