@@ -1,21 +1,23 @@
-//! The program: gathers the words, runs the tool over the standard streams, and ends with the
-//! outcome's note and status.
+//! The program: gathers the words, runs the tool over the standard streams and the store's folder,
+//! and ends with the outcome's note and status.
 #![tactic(auto)]
 
 use backup_top::{BadKind, BadWords, Outcome, note_of, run, status_of};
-use edge_traits::{NoShelf, StdSink, StdSource};
+use edge_traits::{FolderShelf, StdSink, StdSource};
+use std::fs::File;
 use std::process::ExitCode;
 use std::{env, io};
 
 fn main(rt: HostRuntime) -> ExitCode {
-    let outcome = match words_of(&rt) {
-        Ok(words) => run(
+    let _streams = hold_streams(&rt);
+    let outcome = match call_of(rt) {
+        Ok((mut shelf, words)) => run(
             &rt,
             rt.alloc(),
             words.as_slice(),
             &mut StdSource::new(rt),
             &mut StdSink::new(rt),
-            &mut NoShelf::new(),
+            &mut shelf,
         ),
         Err(outcome) => outcome,
     };
@@ -23,12 +25,17 @@ fn main(rt: HostRuntime) -> ExitCode {
     ExitCode::from(status_of(&outcome))
 }
 
-// The words after the program's name and the path of the store.
-fn words_of(rt: &(impl env::Env + AllocGlobal)) -> Result<Vec<String>, Outcome> {
-    let args = env::args(rt).map_err(outcome_of_args)?;
-    args.skip(2)
-        .collect(rt.alloc())
-        .map_err(|_| Outcome::OutOfMemory)
+// The shelf over the folder that the first word names, or an empty path if there is no word, and
+// the words after it.
+fn call_of(rt: HostRuntime) -> Result<(FolderShelf<HostRuntime>, Vec<String>), Outcome> {
+    let mut args = env::args(&rt).map_err(outcome_of_args)?;
+    args.next();
+    let folder = args.next().unwrap_or(String::new(rt.alloc()));
+    let shelf = FolderShelf::new(rt, rt.alloc(), folder.as_str()).map_err(
+        |_| Outcome::OutOfMemory,
+    )?;
+    let words = args.collect(rt.alloc()).map_err(|_| Outcome::OutOfMemory)?;
+    Ok((shelf, words))
 }
 
 // Words that are no text name no command; the runtime does not say at which place one is.
@@ -40,6 +47,18 @@ fn outcome_of_args(error: io::Error) -> Outcome {
         kind: BadKind::Command,
         place: 0,
     })
+}
+
+// Opens a folder three times and keeps it open. The system gives the next file that is opened the
+// lowest free number. If a standard stream is closed, that would be the stream's, and what is
+// written to the stream would end up in a file of the store. A folder can be neither read nor
+// written, so a closed stream fails.
+fn hold_streams(rt: &HostRuntime) -> [io::Result<File>; 3] {
+    [
+        File::open(rt, "/"),
+        File::open(rt, "/"),
+        File::open(rt, "/"),
+    ]
 }
 
 fn report(rt: &(impl Eprint + AllocGlobal), outcome: &Outcome) {

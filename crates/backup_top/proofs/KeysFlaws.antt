@@ -8,6 +8,7 @@ use Rattle.std.proofs.lemmas.List.Folds.{list_any-append}
 use Rattle.std.proofs.lemmas.Slice.Eq.{bytes_eq-Decides}
 use Rattle.std.specs.List.{find, list_any}
 use Rattle.std.specs.Str.{bytes_eq}
+use Rattle.sd_base.specs.declared.words.BadKind.TheVariants.{Key as NoKey}
 use Rattle.sd_base.specs.Keys.{Key, is_equals_sign, key_name_of, value_of, sets_key, bad_kind_of_value, bad_kind_of, first_bad_word}
 
 abbrev pub is_named : List ℕ → Key → Bool
@@ -93,3 +94,12 @@ later_step f keys words i d within none =
       take-suc words i d within,
       map-append f (take i words) (get_or words i d ∷ []),
     ) refl
+
+-- if there are no keys, the first word is bad
+pub first_is_bad : {A : Type 0} (f : A → List ℕ) (place : ℕ) (words : List A) → 1 ≤ length words
+    → first_bad_word [] [] place (map f words) ≡ Some (record { kind = NoKey; place = place })
+first_is_bad f place [] some = absurd (omega arith)
+first_is_bad f place (word ∷ words) some = elim (cases_Bool (list_any is_equals_sign (f word))) [
+  | inl cut ↦ rw cut refl
+  | inr uncut ↦ rw uncut refl
+]

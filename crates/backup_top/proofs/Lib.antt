@@ -1,8 +1,7 @@
--- runs that write nothing, and a run whose pass is stated in two ways
+-- runs, put together from what the parts of a command do
 mod Runs
--- what follows from the record of a run: the forms that a caller may want, and a run over faultless
--- devices
-mod Consequences
+-- a run of `plan`
+mod Plans
 -- a word and its flaw: a word without one sets a key that no earlier word sets, so there are no
 -- more of them than keys
 mod KeysFlaws
@@ -12,3 +11,21 @@ mod KeysValues
 mod KeysSplit
 -- what std says of a text that spells a number
 mod KeysNumbers
+-- the names of sessions are ASCII
+mod AsciiNames
+-- the rows of `list`
+mod Rows
+-- a store is opened, whatever its files hold and if they hold a state
+mod Openings
+-- a run of `list`
+mod Lists
+-- a run of `init`
+mod Inits
+-- a run of `restore`
+mod Restores
+-- commands that read nothing do not end as a failed read
+mod Unread
+-- a run over devices in memory
+mod InMemory
+-- a run of `ingest`
+mod Ingests

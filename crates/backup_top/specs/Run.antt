@@ -1,131 +1,79 @@
 -- What a run does: how it ends, what it writes, and what it leaves of its devices. All rules here
 -- are this project's own.
 --
--- `IsRun` holds of every run. What depends on the command are `LeavesSource` and `LeavesShelf`,
--- with a case for each command. Each takes the ghost functions of the devices, and the devices
--- themselves before and after the run.
-use Rattle.std.specs.Prelude.{◌≡◌, ◌⊎◌, ◌≤◌, ◌+◌, ⊤, ℕ, List, [], drop, Option, Result, Ok, Err, option_map, IfSome}
-use Rattle.edge_traits.specs.Faults.{Rose}
-use Rattle.edge_traits.specs.Sink.{Appends, AppendsPrefix}
+-- `IsRun` holds of every run. What depends on the command are `NeedsHeld`, `MayReturn`,
+-- `LeavesSource`, `LeavesSink`, `LeavesShelf` and `GoesByVerdict`, with a case for each command. The
+-- records take the ghost functions of the devices, and the devices themselves before and after the
+-- run.
+use Rattle.std.specs.Prelude.{◌≡◌, ◌≢◌, ◌⊎◌, ◌≤◌, ◌<◌, ◌+◌, ⊤, ℕ, Bool, false, List, [], ◌∷◌, drop, length, Option, Some, None, MatchOption, Result, Ok, Err, option_map, IfSome}
+use Rattle.sha2.specs.Sha256.{sha256}
+use Rattle.edge_traits.specs.Shelf.{SameFiles, SameLoose, content}
 use Rattle.edge_traits.specs.Source.{IsAtEnd, LosesAtMost}
+use Rattle.ingest_core.specs.Ingests.{IsClosedTo, IsInputOf}
 use Rattle.sd_base.specs.OnePass.{Pass}
-use Rattle.sd_base.specs.Words.{default_workers, default_segment}
-use Rattle.sd_base.specs.declared.limits.TheConstants.{MAX_INPUT}
+use Rattle.sd_base.specs.Opening.{IsOpeningDamage, OpenAs, Opened}
+use Rattle.sd_base.specs.Parameters.{bad_parameter}
+use Rattle.sd_base.specs.States.{IsLawful, State}
+use Rattle.sd_base.specs.Stores.{AreClean, Hold, HoldNoStore}
+use Rattle.sd_base.specs.declared.damage.Damage.{Damage}
+use Rattle.sd_base.specs.declared.file.File.{File}
+use Rattle.sd_base.specs.declared.file.File.TheVariants.{Head, Seal}
+use Rattle.sd_base.specs.declared.limits.TheConstants.{MAX_INPUT, OPEN_HEAD_LEN}
 use Rattle.sd_base.specs.declared.words.BadWords.{BadWords as Refusal}
 use Rattle.sd_base.specs.declared.words.Command.{Command}
-use Rattle.sd_base.specs.declared.words.Command.TheVariants.{Quiet as quiet}
-use Rattle.sd_base.specs.declared.words.Quiet.{Quiet}
-use Rattle.sd_base.specs.declared.words.Quiet.TheVariants.{Plan}
+use Rattle.sd_base.specs.declared.words.Command.TheVariants.{Quiet as quiet, Ingest}
+use Rattle.sd_base.specs.declared.words.Quiet.TheVariants.{Plan, Init, List as ListSessions, Restore}
 use Rattle.sd_base.specs.declared.outcome.Outcome.{Outcome}
-use Rattle.sd_base.specs.declared.outcome.Outcome.TheVariants.{Done, BadWords, BadParams, InputTooLong, SourceFault, SinkFault, OutOfMemory}
+use Rattle.sd_base.specs.declared.outcome.Outcome.TheVariants.{Done, BadWords, BadParams, NoStore, StoreThere, NameTaken, NoSession, Damaged, InputTooLong, TooManySessions, TooManyPlaces, TooManyChunks, SourceFault, SinkFault, ShelfFault, OutOfMemory}
+use Rattle.store_core.specs.Faults.{IsOfChunk, IsOfOpening}
+use Rattle.store_core.specs.Shelves.{CountsFaults}
+use Rattle.backup_top.specs.ByRecords.{GoesByRecords, TakesByRecords}
+use Rattle.backup_top.specs.Outcomes.{EndsAs, Writes, LeavesStore, IsEarly, IsOneOf, IsDamage, IsSilent, IsBroken, IsBrokenOff, IsAfterReading, IsBeforeReading}
 
--- The bytes may be the input of a run: they are what the source had left, if the source is
--- observable.
-abbrev pub IsInputOf : Option (List ℕ) → List ℕ → Type 0
-IsInputOf left input = IfSome left (λ held. input ≡ held)
+-- ---- the store that a run finds
 
--- A run may end so: with the fault of a device that failed, out of memory, or else as the
--- definition expects.
-abbrev pub EndsAs : Outcome → Type 0 → Type 0 → Outcome → Type 0
-EndsAs expected source_failed sink_failed SourceFault = source_failed
-EndsAs expected source_failed sink_failed SinkFault = sink_failed
-EndsAs expected source_failed sink_failed OutOfMemory = ⊤
-EndsAs expected source_failed sink_failed Done = Done ≡ expected
-EndsAs expected source_failed sink_failed (BadWords bad) = BadWords bad ≡ expected
-EndsAs expected source_failed sink_failed (BadParams kind) = BadParams kind ≡ expected
-EndsAs expected source_failed sink_failed InputTooLong = InputTooLong ≡ expected
+-- the files are observable, and they hold a store in this lawful state, or none
+abbrev pub AreHeld : Option (File → List ℕ) → Option State → Type 0
+AreHeld None state = ⊥
+AreHeld (Some files) state = IfSome state IsLawful × Hold sha256 files state
 
--- On Done the whole text was written, after a failed write or out of memory a prefix of it, and
--- otherwise nothing.
-abbrev pub Writes : Outcome → List ℕ → Option (List ℕ) → Option (List ℕ) → Type 0
-Writes Done text before after = Appends before after text
-Writes SinkFault text before after = AppendsPrefix before after text
-Writes OutOfMemory text before after = AppendsPrefix before after text
-Writes (BadWords bad) text before after = after ≡ before
-Writes (BadParams kind) text before after = after ≡ before
-Writes InputTooLong text before after = after ≡ before
-Writes SourceFault text before after = after ≡ before
+-- What a run's clause on a state presumes of the files: nothing, if the run calls no file, and
+-- otherwise that they hold the state.
+abbrev pub NeedsHeld : Result Command Refusal → Option (File → List ℕ) → Option State → Type 0
+NeedsHeld (Err bad) files state = ⊤
+NeedsHeld (Ok (quiet (Plan raw workers segment))) files state = ⊤
+NeedsHeld (Ok (quiet (Init raw))) files state = bad_parameter raw ≡ None → AreHeld files state
+NeedsHeld (Ok (quiet ListSessions)) files state = AreHeld files state
+NeedsHeld (Ok (quiet (Restore name))) files state = AreHeld files state
+NeedsHeld (Ok (Ingest name how)) files state = AreHeld files state
 
--- a refusal that is decided before any device is called
-abbrev pub IsEarly : Outcome → Type 0
-IsEarly (BadWords bad) = ⊤
-IsEarly (BadParams kind) = ⊤
-IsEarly Done = ⊥
-IsEarly InputTooLong = ⊥
-IsEarly SourceFault = ⊥
-IsEarly SinkFault = ⊥
-IsEarly OutOfMemory = ⊥
+-- ---- what a run may return, and what it leaves, by its command
 
--- an outcome of a run that writes nothing
-abbrev pub IsSilent : Outcome → Type 0
-IsSilent Done = ⊥
-IsSilent SinkFault = ⊥
-IsSilent OutOfMemory = ⊥
-IsSilent (BadWords bad) = ⊤
-IsSilent (BadParams kind) = ⊤
-IsSilent InputTooLong = ⊤
-IsSilent SourceFault = ⊤
+-- What a run may return, whatever its devices hold.
+abbrev pub MayReturn : Result Command Refusal → Outcome → Type 0
+MayReturn (Err bad) outcome = outcome ≡ BadWords bad
+MayReturn (Ok (quiet (Plan raw workers segment))) outcome = MatchOption (bad_parameter raw)
+    (IsOneOf (Done ∷ SinkFault ∷ OutOfMemory ∷ InputTooLong ∷ SourceFault ∷ []) outcome)
+    (λ kind. outcome ≡ BadParams kind)
+MayReturn (Ok (quiet (Init raw))) outcome = MatchOption (bad_parameter raw)
+    (IsOneOf (Done ∷ SinkFault ∷ OutOfMemory ∷ StoreThere ∷ ShelfFault ∷ []) outcome)
+    (λ kind. outcome ≡ BadParams kind)
+MayReturn (Ok (quiet ListSessions)) outcome =
+    IsOneOf (Done ∷ SinkFault ∷ OutOfMemory ∷ NoStore ∷ ShelfFault ∷ []) outcome ⊎ IsDamage IsOfOpening outcome
+MayReturn (Ok (quiet (Restore name))) outcome =
+    IsOneOf (Done ∷ SinkFault ∷ OutOfMemory ∷ NoStore ∷ ShelfFault ∷ NoSession ∷ []) outcome
+    ⊎ IsDamage (λ flaw. IsOfOpening flaw ⊎ IsOfChunk flaw) outcome
+MayReturn (Ok (Ingest name how)) outcome =
+    IsOneOf (Done ∷ SinkFault ∷ OutOfMemory ∷ NoStore ∷ ShelfFault ∷ NameTaken ∷ TooManySessions ∷ SourceFault
+    ∷ InputTooLong ∷ TooManyPlaces ∷ TooManyChunks ∷ []) outcome
+    ⊎ IsDamage (λ flaw. IsOfOpening flaw ⊎ IsOfChunk flaw) outcome
 
--- A device failed in a run: its count of faults rose, and it was not known that it would never
--- fail again.
-pub record HasFailed (faultless : Type 0) (before after : ℕ) : Type 0 where
-  pub rose : Rose before after
-  pub may_fail : faultless → ⊥
-
--- What a run does to a device's count of faults.
-pub record CountsFaults {D : Type 0} (faults : D → ℕ) (faultless : D → Type 0)
-    (before after : D) : Type 0 where
-  -- The count never falls.
-  pub never_falls : faults before ≤ faults after
-  -- If the device will never fail again, it counts no fault, and that stays so.
-  pub counts_none : faultless before → faults after ≡ faults before
-  pub stays_faultless : faultless before → faultless after
-
--- How a run on one input ends and what it writes, from the pass that the definition has for this
--- input.
-pub record IsRunOn {K : Type 0} (pass : Pass) (outcome : Outcome) (source_failed sink_failed : Type 0)
-    (written_to : K → Option (List ℕ)) (before after : K) : Type 0 where
-  -- The outcome is that of the definition, or the fault of a device that failed in this run, or out
-  -- of memory.
-  pub answer : EndsAs pass.outcome source_failed sink_failed outcome
-  -- Bad words and bad parameters are always refused, whatever the devices do and whether there is
-  -- memory.
-  pub refused : IsEarly pass.outcome → outcome ≡ pass.outcome
-  -- The sink received the text of the definition, as `Writes` says.
-  pub written : Writes outcome pass.text (written_to before) (written_to after)
-  -- If the text is empty, the sink is as it was.
-  pub nothing_to_write : pass.text ≡ [] → after ≡ before
-
--- Every run: `pass` is the definition's pass for each input.
-pub record IsRun {R K : Type 0} (pass : List ℕ → Pass) (outcome : Outcome)
-    (left : R → Option (List ℕ)) (read_faults : R → ℕ) (source_faultless : R → Type 0)
-    (source_before source_after : R)
-    (written_to : K → Option (List ℕ)) (write_faults : K → ℕ) (sink_faultless : K → Type 0)
-    (sink_before sink_after : K) : Type 0 where
-  -- There is an input, which is the source's bytes if the source is observable, and the run is that
-  -- of the definition on it.
-  pub on_some_input :
-      (input : List ℕ) × IsInputOf (left source_before) input
-      × IsRunOn (pass input) outcome
-      (HasFailed (source_faultless source_before) (read_faults source_before) (read_faults source_after))
-      (HasFailed (sink_faultless sink_before) (write_faults sink_before) (write_faults sink_after))
-      written_to sink_before sink_after
-  -- What the devices count.
-  pub source_counts : CountsFaults read_faults source_faultless source_before source_after
-  pub sink_counts : CountsFaults write_faults sink_faultless sink_before sink_after
-  -- After bad words, bad parameters, an input that is too long and a failed read the sink is as it
-  -- was.
-  pub silent : IsSilent outcome → sink_after ≡ sink_before
-  -- After bad words and bad parameters the source is as it was.
-  pub untouched : IsEarly outcome → source_after ≡ source_before
-
--- What a run of a command that reads its input leaves of the source.
+-- What a run that reads its input leaves of the source.
 pub record ReadsInput {R K : Type 0} (outcome : Outcome) (left : R → Option (List ℕ))
     (source_before source_after : R) (sink_before sink_after : K) : Type 0 where
-  -- On Done the source was read to its end.
-  pub whole_input : outcome ≡ Done → IsAtEnd (left source_after)
-  -- After a failed write it was read to its end too.
-  pub read_first : outcome ≡ SinkFault → IsAtEnd (left source_after)
+  -- On Done, after a failed write, and if there would be too many places or chunks, the source was
+  -- read to its end.
+  pub whole_input : IsAfterReading outcome → IsAtEnd (left source_after)
   -- The sink is as it was, unless the source was read to its end.
   pub written_last : (sink_after ≡ sink_before) ⊎ IsAtEnd (left source_after)
   -- At most 2^28 + 1 bytes were taken from the source.
@@ -134,21 +82,179 @@ pub record ReadsInput {R K : Type 0} (outcome : Outcome) (left : R → Option (L
   pub taken :
       outcome ≡ InputTooLong
       → left source_after ≡ option_map (λ input. drop (MAX_INPUT + 1) input) (left source_before)
+  -- An input is refused as too long only if it has more than 2^28 bytes, and is read to its end only
+  -- if it has no more.
+  pub too_long : outcome ≡ InputTooLong → IfSome (left source_before) (λ input. MAX_INPUT < length input)
+  pub fits : IsAfterReading outcome → IfSome (left source_before) (λ input. length input ≤ MAX_INPUT)
 
--- What a run leaves of the source, by what its words name.
-abbrev pub LeavesSource : {R K : Type 0} → Result Command Refusal → Outcome
-    → (R → Option (List ℕ)) → R → R → K → K → Type 0
-LeavesSource (Ok (quiet (Plan _ _ _))) outcome left source_before source_after sink_before sink_after =
-    ReadsInput outcome left source_before source_after sink_before sink_after
-LeavesSource (Err _) outcome left source_before source_after sink_before sink_after =
+-- What an ingest leaves of the source.
+pub record IngestReads {R K : Type 0} (name : List ℕ) (outcome : Outcome) (left : R → Option (List ℕ))
+    (files : Option (File → List ℕ)) (source_before source_after : R) (sink_before sink_after : K) : Type 0 where
+  pub reads : ReadsInput outcome left source_before source_after sink_before sink_after
+  -- Nothing is read before the store refuses the session, and nothing if it must refuse it: if the
+  -- name is taken, or if there are as many sessions as there may be.
+  pub unread : IsBeforeReading outcome → source_after ≡ source_before
+  pub refused_unread :
+      (state : State) → AreHeld files (Some state) → IsClosedTo state name → source_after ≡ source_before
+  -- Nothing is read where there is no store, and where opening finds a damage.
+  pub unopened : IfSome files (λ bytes_of. HoldNoStore bytes_of ⊎ ((flaw : Damage) × IsOpeningDamage bytes_of flaw)
+      → source_after ≡ source_before)
+
+-- What a run leaves of the source.
+abbrev pub LeavesSource : {R K : Type 0} → Result Command Refusal → Outcome → (R → Option (List ℕ))
+    → Option (File → List ℕ) → R → R → K → K → Type 0
+LeavesSource (Err bad) outcome left files source_before source_after sink_before sink_after =
     source_after ≡ source_before
+LeavesSource (Ok (quiet (Plan raw workers segment))) outcome left files source_before source_after sink_before sink_after =
+    ReadsInput outcome left source_before source_after sink_before sink_after
+LeavesSource (Ok (quiet (Init raw))) outcome left files source_before source_after sink_before sink_after =
+    source_after ≡ source_before
+LeavesSource (Ok (quiet ListSessions)) outcome left files source_before source_after sink_before sink_after =
+    source_after ≡ source_before
+LeavesSource (Ok (quiet (Restore name))) outcome left files source_before source_after sink_before sink_after =
+    source_after ≡ source_before
+LeavesSource (Ok (Ingest name how)) outcome left files source_before source_after sink_before sink_after =
+    IngestReads name outcome left files source_before source_after sink_before sink_after
 
--- What a run leaves of the shelf, by what its words name.
-abbrev pub LeavesShelf : {F : Type 0} → Result Command Refusal → F → F → Type 0
-LeavesShelf (Ok (quiet (Plan _ _ _))) before after = after ≡ before
-LeavesShelf (Err _) before after = after ≡ before
+-- What a run leaves of the sink after a failed call on the store's files and a damage: it is as it
+-- was. Only a restore may have written, if opening finds no damage.
+abbrev pub LeavesSink : {K : Type 0} → Result Command Refusal → Outcome → Option (File → List ℕ) → K → K → Type 0
+LeavesSink (Err bad) outcome files before after = after ≡ before
+LeavesSink (Ok (quiet (Plan raw workers segment))) outcome files before after = IsBrokenOff outcome → after ≡ before
+LeavesSink (Ok (quiet (Init raw))) outcome files before after = IsBrokenOff outcome → after ≡ before
+LeavesSink (Ok (quiet ListSessions)) outcome files before after = IsBrokenOff outcome → after ≡ before
+LeavesSink (Ok (quiet (Restore name))) outcome files before after =
+    IfSome files (λ bytes_of. (flaw : Damage) → IsOpeningDamage bytes_of flaw → after ≡ before)
+LeavesSink (Ok (Ingest name how)) outcome files before after = IsBrokenOff outcome → after ≡ before
 
--- the fields of a command that no word sets yet have their defaults
-abbrev pub HasDefaultWorkersAndSegment : Quiet → Type 0
-HasDefaultWorkersAndSegment (Plan _ workers segment) =
-    (workers ≡ default_workers) × (segment ≡ default_segment)
+-- no file has changed, and the same files are loose
+pub record KeepsFiles {F : Type 0} (files_of : F → Option (File → List ℕ)) (loose : F → File → Bool)
+    (before after : F) : Type 0 where
+  pub same_files : SameFiles (files_of before) (files_of after)
+  pub same_loose : SameLoose (loose before) (loose after)
+
+-- What the making of a store leaves of the shelf.
+pub record MakesStore {F : Type 0} (outcome : Outcome) (files_of : F → Option (File → List ℕ))
+    (loose : F → File → Bool) (before after : F) : Type 0 where
+  -- Nothing is called before parameters are refused.
+  pub early : IsEarly outcome → after ≡ before
+  pub refused : outcome ≡ StoreThere → KeepsFiles files_of loose before after
+  -- Only the head and the seal of generation 0 change.
+  pub other_files : (f : File) → f ≢ Head → f ≢ Seal 0 → content (files_of after) f ≡ content (files_of before) f
+  pub other_loose : (f : File) → f ≢ Head → f ≢ Seal 0 → loose after f ≡ loose before f
+  -- If there is a store, nothing changes.
+  pub kept : IfSome (files_of before) (λ files. OPEN_HEAD_LEN ≤ length (files Head) → KeepsFiles files_of loose before after)
+  -- On Done and after a failed write both are flushed.
+  pub flushed : (outcome ≡ Done) ⊎ (outcome ≡ SinkFault) → (loose after Head ≡ false) × (loose after (Seal 0) ≡ false)
+
+-- What a run leaves of the shelf.
+abbrev pub LeavesShelf : {F : Type 0} → Result Command Refusal → Outcome → (F → Option (File → List ℕ))
+    → (F → File → Bool) → F → F → Type 0
+LeavesShelf (Err bad) outcome files_of loose before after = after ≡ before
+LeavesShelf (Ok (quiet (Plan raw workers segment))) outcome files_of loose before after = after ≡ before
+LeavesShelf (Ok (quiet (Init raw))) outcome files_of loose before after =
+    MakesStore outcome files_of loose before after
+LeavesShelf (Ok (quiet ListSessions)) outcome files_of loose before after =
+    KeepsFiles files_of loose before after
+LeavesShelf (Ok (quiet (Restore name))) outcome files_of loose before after =
+    KeepsFiles files_of loose before after
+LeavesShelf (Ok (Ingest name how)) outcome files_of loose before after =
+    IsBeforeReading outcome → KeepsFiles files_of loose before after
+
+-- What opening makes of a run, whatever the files hold. A damage is named only if opening finds it,
+-- or it is one that the command may find later.
+pub record OpensFirst (IsLater : Damage → Type 0) (outcome : Outcome) (files : File → List ℕ) : Type 0 where
+  pub no_store : outcome ≡ NoStore → HoldNoStore files
+  pub absent : HoldNoStore files → IsBroken outcome ⊎ (outcome ≡ NoStore)
+  pub damaged : (flaw : Damage) → outcome ≡ Damaged flaw → IsOpeningDamage files flaw ⊎ IsLater flaw
+  pub named : (flaw : Damage) → IsOpeningDamage files flaw → IsBroken outcome ⊎ (outcome ≡ Damaged flaw)
+
+-- What the head of a store makes of a run that is to make one, whatever the files hold.
+pub record LooksForStore (outcome : Outcome) (files : File → List ℕ) : Type 0 where
+  pub there : outcome ≡ StoreThere → OPEN_HEAD_LEN ≤ length (files Head)
+  -- If there is a store, it is refused so, unless the shelf failed or memory ran out.
+  pub refused : OPEN_HEAD_LEN ≤ length (files Head) → IsBroken outcome ⊎ (outcome ≡ StoreThere)
+
+-- The same, by command.
+abbrev pub GoesByVerdict : Result Command Refusal → Outcome → Option (File → List ℕ) → Type 0
+GoesByVerdict (Err bad) outcome files = ⊤
+GoesByVerdict (Ok (quiet (Plan raw workers segment))) outcome files = ⊤
+GoesByVerdict (Ok (quiet (Init raw))) outcome files = bad_parameter raw ≡ None → IfSome files (LooksForStore outcome)
+GoesByVerdict (Ok (quiet ListSessions)) outcome files = IfSome files (OpensFirst (λ flaw. ⊥) outcome)
+GoesByVerdict (Ok (quiet (Restore name))) outcome files = IfSome files (OpensFirst IsOfChunk outcome)
+GoesByVerdict (Ok (Ingest name how)) outcome files = IfSome files (OpensFirst IsOfChunk outcome)
+
+-- if the files before had the state and nothing else, those after have the next state and nothing else
+abbrev pub StayClean : Option (File → List ℕ) → Option (File → List ℕ) → Option State → Option State → Type 0
+StayClean before after state next =
+    IfSome before (λ had. AreClean sha256 had state → IfSome after (λ files. AreClean sha256 files next))
+
+-- ---- a run
+
+-- How a run ends and what it writes, from the pass that the definition has for its input and the
+-- state before.
+pub record IsRunOn {K : Type 0} (pass : Pass) (outcome : Outcome) (written_to : K → Option (List ℕ)) (before after : K)
+    : Type 0 where
+  -- The outcome is that of the definition, or the fault of a device, or out of memory.
+  pub answer : EndsAs pass.outcome outcome
+  -- Bad words and bad parameters are always refused, whatever the devices do and whether there is
+  -- memory.
+  pub refused : IsEarly pass.outcome → outcome ≡ pass.outcome
+  -- The sink received the text of the definition, as `Writes` says.
+  pub written : Writes outcome pass.text (written_to before) (written_to after)
+  -- If the text is empty, the sink is as it was.
+  pub nothing_to_write : pass.text ≡ [] → after ≡ before
+
+-- What a run does apart from its source. `pass` is the definition's pass for each state.
+pub record IsCarriedOut {K F : Type 0} (pass : Option State → Pass) (command : Result Command Refusal)
+    (outcome : Outcome)
+    (written_to : K → Option (List ℕ)) (write_faults : K → ℕ) (sink_faultless : K → Type 0)
+    (sink_before sink_after : K)
+    (files_of : F → Option (File → List ℕ)) (loose : F → File → Bool) (shelf_faults : F → ℕ)
+    (shelf_faultless : F → Type 0) (shelf_before shelf_after : F) : Type 0 where
+  -- The run is that of the definition on each state that the files may hold.
+  pub on_state : (state : Option State) → NeedsHeld command (files_of shelf_before) state
+      → IsRunOn (pass state) outcome written_to sink_before sink_after
+  -- The files then hold the state of the definition, as `LeavesStore` says.
+  pub held : (state : Option State) → AreHeld (files_of shelf_before) state
+      → IfSome (files_of shelf_after) (LeavesStore outcome state (pass state).after)
+  -- From clean files a run that is done leaves clean files.
+  pub clean : outcome ≡ Done → (state : Option State) → AreHeld (files_of shelf_before) state
+      → StayClean (files_of shelf_before) (files_of shelf_after) state (pass state).after
+  -- The outcome is one that the command may have.
+  pub among : MayReturn command outcome
+  -- The fault of a device is returned only if its own count of faults rose.
+  pub sink_counts : CountsFaults (outcome ≡ SinkFault) write_faults sink_faultless sink_before sink_after
+  pub shelf_counts : CountsFaults (outcome ≡ ShelfFault) shelf_faults shelf_faultless shelf_before shelf_after
+  -- What is left of the sink and of the shelf, whatever the files hold.
+  pub silent : IsSilent outcome → sink_after ≡ sink_before
+  pub sink : LeavesSink command outcome (files_of shelf_before) sink_before sink_after
+  pub shelf : LeavesShelf command outcome files_of loose shelf_before shelf_after
+  pub verdict : GoesByVerdict command outcome (files_of shelf_before)
+  -- What is done by the committed records, if the files open.
+  pub by_records : (opened : Opened) → IfSome (files_of shelf_before) (λ files. OpenAs files opened
+      → GoesByRecords command outcome files opened (written_to sink_before) (written_to sink_after))
+
+-- Every run: `pass` is the definition's pass for each state and each input.
+pub record IsRun {R K F : Type 0} (pass : Option State → List ℕ → Pass) (command : Result Command Refusal)
+    (outcome : Outcome)
+    (left : R → Option (List ℕ)) (read_faults : R → ℕ) (source_faultless : R → Type 0)
+    (source_before source_after : R)
+    (written_to : K → Option (List ℕ)) (write_faults : K → ℕ) (sink_faultless : K → Type 0)
+    (sink_before sink_after : K)
+    (files_of : F → Option (File → List ℕ)) (loose : F → File → Bool) (shelf_faults : F → ℕ)
+    (shelf_faultless : F → Type 0) (shelf_before shelf_after : F) : Type 0 where
+  -- There is an input, which is the source's bytes if the source is observable, and the run is that
+  -- of the definition on it. If the files open, it goes by the committed records.
+  pub on_some_input :
+      (input : List ℕ) × IsInputOf (left source_before) input
+      × IsCarriedOut (λ state. pass state input) command outcome
+      written_to write_faults sink_faultless sink_before sink_after
+      files_of loose shelf_faults shelf_faultless shelf_before shelf_after
+      × ((opened : Opened) → IfSome (files_of shelf_before) (λ files. OpenAs files opened
+      → TakesByRecords command outcome opened input))
+  pub source_counts : CountsFaults (outcome ≡ SourceFault) read_faults source_faultless source_before source_after
+  -- After bad words and bad parameters the source is as it was.
+  pub untouched : IsEarly outcome → source_after ≡ source_before
+  pub source :
+      LeavesSource command outcome left (files_of shelf_before) source_before source_after sink_before sink_after

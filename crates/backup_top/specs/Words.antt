@@ -1,15 +1,22 @@
 -- The words of the command line in the program.
-use Rattle.std.specs.Prelude.{ℕ, List, map, String, string_bytes, if◌then◌else◌, unwrap_or}
+use Rattle.std.specs.Prelude.{ℕ, List, map, String, string_bytes, if◌then◌else◌, unwrap_or, Result, Ok, Err}
 use Rattle.std.specs.declared.alloc.Global.{Global}
 use Rattle.sd_base.specs.Keys.{Key, number_of, sets_key, value_of}
 use Rattle.sd_base.specs.Words.{polynomial_key, bits_key, target_key, min_key, max_key}
 use Rattle.sd_base.specs.declared.raw_params.RawParams.{RawParams}
+use Rattle.sd_base.specs.declared.words.BadWords.{BadWords}
+use Rattle.sd_base.specs.declared.words.Command.{Command}
 use Rattle.backup_top.specs.declared.words.Parameter.{Parameter}
 use Rattle.backup_top.specs.declared.words.Parameter.TheVariants.{Polynomial, Bits, Target, Min, Max}
 
 -- the bytes of each word
 abbrev pub texts_of : List (String Global) → List (List ℕ)
 texts_of words = map string_bytes words
+
+-- the command of a value that was read, unless a word is bad
+abbrev pub command_with : {A : Type 0} → (A → Command) → Result A BadWords → Result Command BadWords
+command_with command (Ok value) = Ok (command value)
+command_with command (Err bad) = Err bad
 
 -- the value of a key after a word, from its value before
 abbrev pub value_after : List ℕ → Key → ℕ → ℕ

@@ -1,20 +1,31 @@
 //! The top of the tool: reads the words, runs the command that they name, and says how the run
-//! ended. It uses the definitions of `sd_base` and the devices of `edge_traits`. It cuts by
-//! `segment_scan` and `cut_walk`, with the windows of `rabin_window` and the maps of
-//! `candidate_map`, and names chunks by `chunk_names`. All rules here are this project's own.
+//! ended. It uses the definitions of `sd_base`, the devices of `edge_traits` and the names of
+//! `chunk_names`. It cuts and takes in by `ingest_core`, and opens, makes and restores a store by
+//! `store_core`. All rules here are this project's own.
 #![tactic(auto)]
 
-mod cuts;
 mod in_memory;
+mod ingest;
+mod ingest_text;
+mod init;
 mod keys;
+mod list;
+mod list_text;
+mod name_text;
 mod notes;
+mod opened;
 mod plan;
 mod plan_text;
 mod reference_cutting;
+mod restore;
 mod runner;
+mod store_outcome;
+#[cfg(test)]
+mod store_tests;
 #[cfg(test)]
 mod tests;
 mod words;
+mod write_made;
 
 pub use in_memory::run_in_memory;
 pub use notes::{note_of, status_of};

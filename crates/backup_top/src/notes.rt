@@ -1,7 +1,8 @@
 ghost use Rattle.std.specs.Prelude.{◌≡◌, IfOk, Some, string_bytes};
-ghost use Rattle.backup_top.specs.Notes.{kind_text, note, parameter_text, status};
+ghost use Rattle.hex.specs.Hex.{encode_lower};
+ghost use Rattle.backup_top.specs.Notes.{damage_text, kind_text, note, parameter_text, status};
 
-use sd_base::{BadKind, BadParams, BadWords, OutOfMemory, Outcome};
+use sd_base::{BadKind, BadParams, DIGEST_LEN, Damage, OutOfMemory, Outcome};
 use std::alloc::Global;
 use std::fmt;
 
@@ -12,11 +13,18 @@ pub fn status_of(outcome: &Outcome) -> u8
     match outcome {
         Outcome::Done => 0,
         Outcome::BadWords(_) => 2,
-        Outcome::BadParams(_) => 14,
+        Outcome::NoStore => 3,
+        Outcome::StoreThere => 4,
+        Outcome::NameTaken => 5,
+        Outcome::NoSession => 6,
+        Outcome::Damaged(_) => 7,
         Outcome::InputTooLong => 8,
+        Outcome::TooManySessions | Outcome::TooManyPlaces | Outcome::TooManyChunks => 9,
         Outcome::SourceFault => 10,
         Outcome::SinkFault => 11,
+        Outcome::ShelfFault => 12,
         Outcome::OutOfMemory => 13,
+        Outcome::BadParams(_) => 14,
     }
 }
 
@@ -48,11 +56,70 @@ impl fmt::Display for Note {
                 let parameter = text_of_parameter(kind);
                 writeln!(f, "backup: bad parameter: {parameter}")
             }
+            Outcome::NoStore => writeln!(f, "backup: no store"),
+            Outcome::StoreThere => writeln!(f, "backup: store already there"),
+            Outcome::NameTaken => writeln!(f, "backup: name taken"),
+            Outcome::NoSession => writeln!(f, "backup: no such session"),
+            Outcome::Damaged(damage) => {
+                let damage = DamageText(damage);
+                writeln!(f, "backup: damaged {damage}")
+            }
             Outcome::InputTooLong => writeln!(f, "backup: input too long"),
+            Outcome::TooManySessions => writeln!(f, "backup: too many sessions"),
+            Outcome::TooManyPlaces => writeln!(f, "backup: too many places"),
+            Outcome::TooManyChunks => writeln!(f, "backup: too many chunks"),
             Outcome::SourceFault => writeln!(f, "backup: reading failed"),
             Outcome::SinkFault => writeln!(f, "backup: writing failed"),
+            Outcome::ShelfFault => writeln!(f, "backup: store failed"),
             Outcome::OutOfMemory => writeln!(f, "backup: out of memory"),
         }
+    }
+}
+
+// What is damaged, as a note says it.
+#[derive(Clone, Copy)]
+struct DamageText(Damage);
+
+impl fmt::Display for DamageText {
+    ghost output = { λ printed. Some (damage_text printed.0) };
+
+    fn fmt<W: fmt::Write>(&self, f: &mut fmt::Formatter<W>) -> fmt::Result {
+        match self.0 {
+            Damage::Head => write!(f, "head"),
+            Damage::Record(number) => write!(f, "record {number}"),
+            Damage::Recipe { session, place } => write!(f, "recipe {session} {place}"),
+            Damage::Container {
+                number,
+                needed,
+                found,
+            } => { write!(f, "container {number} needs {needed} has {found}") }
+            Damage::Mark { number, .. } => write!(f, "mark {number}"),
+            Damage::Chunk {
+                number,
+                kept,
+                found,
+            } => {
+                let (kept, found) = (Digits(kept), Digits(found));
+                write!(f, "chunk {number} kept {kept} found {found}")
+            }
+            Damage::Twin { first, second } => write!(f, "twin {first} {second}"),
+            Damage::Order { session, place } => write!(f, "order {session} {place}"),
+            Damage::Cut { session, place } => write!(f, "cut {session} {place}"),
+        }
+    }
+}
+
+// The name of a chunk in lower-case hexadecimal digits.
+#[derive(Clone, Copy)]
+struct Digits([u8; DIGEST_LEN]);
+
+impl fmt::Display for Digits {
+    ghost output = { λ name. Some (encode_lower name.0) };
+
+    fn fmt<W: fmt::Write>(&self, f: &mut fmt::Formatter<W>) -> fmt::Result {
+        let mut digits = [0; 2 * DIGEST_LEN];
+        hex::encode_to_slice(self.0.as_slice(), &mut digits).map_err(|_| fmt::Error)?;
+        f.write_str(str::from_utf8(&digits).map_err(|_| fmt::Error)?)
     }
 }
 

@@ -1,6 +1,8 @@
 use super::read_words;
 use crate::tests::words;
-use sd_base::{BadKind, BadWords, Command, DEFAULT_SEGMENT, DEFAULT_WORKERS, Quiet, RawParams};
+use sd_base::{
+    BadKind, BadWords, Command, DEFAULT_SEGMENT, DEFAULT_WORKERS, How, Name, Quiet, RawParams,
+};
 use std::test::Fail;
 
 fn plan(raw: RawParams) -> Result<Command, BadWords> {
@@ -12,10 +14,11 @@ fn plan(raw: RawParams) -> Result<Command, BadWords> {
 }
 
 // Command lines, and the word of each that fails.
-const BAD: [(&str, BadKind, u32); 12] = [
+const BAD: [(&str, BadKind, u32); 22] = [
     ("store", BadKind::Missing, 0),
     ("store,Plan", BadKind::Command, 0),
     ("store,,bits=13", BadKind::Command, 0),
+    ("store,drop,a", BadKind::Command, 0),
     ("store,plan,", BadKind::Key, 1),
     ("store,plan,bits=13,bits", BadKind::Key, 2),
     ("store,plan,bits=13,min=64,bits=", BadKind::Twice, 3),
@@ -33,6 +36,15 @@ const BAD: [(&str, BadKind, u32); 12] = [
         BadKind::Key,
         6,
     ),
+    ("store,init,bits=13,segment=1", BadKind::Key, 2),
+    ("store,init,min=64,min=64", BadKind::Twice, 2),
+    ("store,ingest", BadKind::Missing, 1),
+    ("store,ingest,.x", BadKind::Name, 1),
+    ("store,ingest,a,bits=13", BadKind::Key, 2),
+    ("store,list,a", BadKind::Key, 1),
+    ("store,restore", BadKind::Missing, 1),
+    ("store,restore,,b", BadKind::Name, 1),
+    ("store,restore,a,b", BadKind::Key, 2),
 ];
 
 #[test]
@@ -100,6 +112,38 @@ fn keys_in_any_order_set_the_parameters(rt: HostRuntime) -> Result<(), Fail> {
         };
         let words = words(alloc, line)?;
         assert_eq!(rt; read_words(words.as_slice()), plan(raw));
+    }
+    Ok(())
+}
+
+#[test]
+fn each_command_of_the_store_has_its_words(rt: HostRuntime) -> Result<(), Fail> {
+    let alloc = rt.alloc();
+    let raw = RawParams {
+        polynomial: 0x8000_0000_0000_0001,
+        bits: 13,
+        target: 0,
+        min: 64,
+        max: 256,
+    };
+    let how = How {
+        workers: 4,
+        segment: 65_536,
+        batch: 1_048_576,
+        shards: 16,
+    };
+    let name = Name::read(b"a.1").ok().ok_or("a name")?;
+    for (line, command) in [
+        (
+            "store,init,polynomial=8000000000000001,bits=13,target=0,min=64,max=256",
+            Command::Quiet(Quiet::Init { raw }),
+        ),
+        ("store,ingest,a.1", Command::Ingest { name, how }),
+        ("store,list", Command::Quiet(Quiet::List)),
+        ("store,restore,a.1", Command::Quiet(Quiet::Restore { name })),
+    ] {
+        let words = words(alloc, line)?;
+        assert_eq!(rt; read_words(words.as_slice()), Ok(command));
     }
     Ok(())
 }

@@ -4,7 +4,7 @@ use Rattle.sd_base.specs.Words.{params_keys}
 use Rattle.backup_top.specs.Words.{params_after, texts_of}
 use Rattle.backup_top.proofs.KeysFlaws.{left_step, later_step}
 use Rattle.backup_top.proofs.KeysValues.{set_step}
-use Rattle.backup_top.proofs.words.read_plan.Goals as goal
+use Rattle.backup_top.proofs.words.read_params.Goals as goal
 
 pub loop-i-preserved : goal.loop-i-preserved
 loop-i-preserved c =

@@ -3,7 +3,7 @@ use Rattle.sd_base.specs.Keys.{first_bad_word}
 use Rattle.sd_base.specs.Words.{params_keys, params_of}
 use Rattle.backup_top.specs.Words.{texts_of}
 use Rattle.backup_top.proofs.KeysFlaws.{unset}
-use Rattle.backup_top.proofs.words.read_plan.Given as goal
+use Rattle.backup_top.proofs.words.read_params.Given as goal
 
 abbrev pub invariant-loop-i : goal.invariant-loop-i
 invariant-loop-i l = record {
