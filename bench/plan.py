@@ -48,11 +48,11 @@ def write_tar(path, size):
             file.write(tar.stdout.read(min(PIECE, size - start)))
 
 
-def measure(words, source, report):
+def measure(words, source, report, output=DEVNULL):
     """Runs a program once on an open file and returns its seconds and its peak memory in bytes."""
     timed = [TIME, "-f", "%M", "-o", report] if TIME else []
     start = perf_counter()
-    process = Popen([*timed, *words], stdin=source, stdout=DEVNULL)
+    process = Popen([*timed, *words], stdin=source, stdout=output)
     _, status, usage = os.wait4(process.pid, 0)
     seconds = perf_counter() - start
     process.returncode = os.waitstatus_to_exitcode(status)

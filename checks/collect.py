@@ -8,8 +8,22 @@ from pathlib import Path
 import harness
 
 # The number of tests in the file of each subject.
-SUBJECTS = {"plan": 33, "words": 5, "stores": 4, "streams": 24, "documents": 6, "demo": 2}
-OTHERS = {"collect", "harness", "reference", "rooms"}
+SUBJECTS = {
+    "plan": 33,
+    "words": 7,
+    "stores": 7,
+    "streams": 24,
+    "sessions": 24,
+    "damage": 12,
+    "limits": 6,
+    "faults": 14,
+    "store_streams": 6,
+    "kills": 1,
+    "calls": 8,
+    "documents": 7,
+    "demo": 2,
+}
+OTHERS = {"collect", "folders", "harness", "pipes", "reference", "reference_store", "rooms"}
 
 
 def collect(subject):

@@ -1,4 +1,4 @@
-"""The demo passes the plan of the program, and refuses a plan with anything wrong in it."""
+"""The demo passes what the program does, and refuses output with anything wrong in it."""
 
 from pathlib import Path
 
@@ -6,48 +6,78 @@ from harness import PROGRAM, Mismatch, each_row, ended, expect_same, test
 
 DEMO = Path(__file__).resolve().parent.parent / "demo"
 
+WRAPPER = """#!/bin/sh
+if [ "$2 $3" = "{command}" ]; then
+    {doing}
+else
+    exec "{program}" "$@"
+fi
+"""
 
-def demo_of_plan_through(filter_of_plan):
-    """Runs the demo with a program that prints the plan through a filter."""
-    program = Path("filtered").absolute()
-    program.write_text(f'#!/bin/sh\n"{PROGRAM}" "$@" | {{ {filter_of_plan}; }}\n')
+
+def demo_with(command, doing):
+    """Runs the demo with a program that does something else at one command."""
+    program = Path("wrapped").absolute()
+    program.write_text(WRAPPER.format(command=command, doing=doing, program=PROGRAM))
     program.chmod(0o755)
     return ended(["env", f"BACKUP={program}", DEMO], input=b"", capture_output=True)
 
 
+def through(filter_of_output):
+    """What prints the output of the program through a filter."""
+    return f'"{PROGRAM}" "$@" | {{ {filter_of_output}; }}'
+
+
 @test
-def demo_passes_the_plan():
-    expect_same("status and notes", (0, b""), demo_of_plan_through("cat")[::2])
+def demo_passes_what_the_program_does():
+    came = demo_with("plan ", through("cat"))
+    expect_same("status and notes", (0, b""), (came.status, came.notes))
+    last = came.output.splitlines()[-1]
+    if b"has 108902 bytes and added 11760." not in last:
+        raise Mismatch(f"wanted how many bytes the second version added, came {last}")
 
 
-# Filters for the printed plan, each of which makes something in it wrong.
-WRONG_PLANS = [
-    ("no line", "sed d"),
-    ("one line", "sed -n 1p"),
-    ("no last line", "sed '$d'"),
-    ("no first line", "sed 1d"),
-    ("no third line", "sed 3d"),
-    ("a line twice", "sed 3p"),
-    ("a wrong offset", "sed '3s/^/1/'"),
-    ("a wrong length", "sed '3s/ / 1/'"),
-    ("a length with a sign", "sed '3s/ / +/'"),
-    ("a wrong name", "sed '3s/.$/x/'"),
-    ("a wrong last name", "sed '$s/.$/x/'"),
-    ("a name in capitals", "sed '3s/[a-f]/\\U&/g'"),
-    ("a word too many", "sed '3s/$/ x/'"),
-    ("a blank too many", "sed '3s/$/ /'"),
-    ("an empty line", "sed '3s/$/\\n/'"),
-    ("no last line feed", "head -c -1"),
-    ("a line more", "sed '$s/$/\\nmore/'"),
-    ("one chunk", 'cat >/dev/null; set -- $(sha256sum README.md); echo 0 $(wc -c <README.md) $1'),
+PLAN, LIST, INIT = "plan ", "list ", "init "
+WRONG_OUTPUT = [
+    ("no line", PLAN, through("sed d")),
+    ("one line", PLAN, through("sed -n 1p")),
+    ("no last line", PLAN, through("sed '$d'")),
+    ("no first line", PLAN, through("sed 1d")),
+    ("no third line", PLAN, through("sed 3d")),
+    ("a line twice", PLAN, through("sed 3p")),
+    ("a wrong offset", PLAN, through("sed '3s/^/1/'")),
+    ("a wrong length", PLAN, through("sed '3s/ / 1/'")),
+    ("a length with a sign", PLAN, through("sed '3s/ / +/'")),
+    ("a wrong name", PLAN, through("sed '3s/.$/x/'")),
+    ("a wrong last name", PLAN, through("sed '$s/.$/x/'")),
+    ("a name in capitals", PLAN, through("sed '3s/[a-f]/\\U&/g'")),
+    ("a word too many", PLAN, through("sed '3s/$/ x/'")),
+    ("no list", LIST, through("sed d")),
+    ("a list of one", LIST, through("sed 1d")),
+    ("a wrong number", LIST, through("sed '2s/1/2/'")),
+    ("a list in another order", LIST, through("sort -r")),
+    ("a session more", LIST, through("sed 'p;s/monday/x/'")),
+    ("no line of an ingest", "ingest tuesday", through("sed d")),
+    ("a line of another ingest", "ingest tuesday", through("sed s/tuesday/monday/")),
+    ("a wrong number of bytes", "ingest monday", through("sed s/108894/108895/")),
+    ("an ingest of nothing", "ingest tuesday", f'"{PROGRAM}" "$@" </dev/null'),
+    ("nothing restored", "restore tuesday", through("cat >/dev/null")),
+    ("another session", "restore tuesday", f'"{PROGRAM}" store restore monday'),
+    ("a byte less", "restore monday", through("head -c -1")),
+    ("a byte more", "restore monday", through("cat; echo")),
+    ("a byte changed", "restore monday", through("tr 7 8")),
+    ("a wrong status of restore", "restore monday", f'"{PROGRAM}" "$@"; exit 7'),
+    ("a wrong status of init", INIT, f'"{PROGRAM}" "$@"; exit 4'),
+    ("a wrong status of list", LIST, f'"{PROGRAM}" "$@"; exit 3'),
+    ("no store", INIT, "echo ready"),
 ]
 
 
 @test
-def demo_refuses_a_wrong_plan():
-    def expect_row(_, filter_of_plan):
-        came = demo_of_plan_through(filter_of_plan)
-        if came.status != 1 or not came.notes.startswith(b"demo: "):
+def demo_refuses_wrong_output():
+    def expect_row(_, command, doing):
+        came = demo_with(command, doing)
+        if came.status != 1 or b"demo: " not in came.notes:
             raise Mismatch(f"wanted status 1 and a note, came {came.status} and {came.notes}")
 
-    each_row(WRONG_PLANS, expect_row)
+    each_row(WRONG_OUTPUT, expect_row)

@@ -8,6 +8,7 @@ from pathlib import Path
 from subprocess import DEVNULL
 from typing import NamedTuple
 
+from folders import expect_files
 from harness import (
     PROGRAM,
     STATUSES,
@@ -21,9 +22,11 @@ from harness import (
     test,
 )
 from reference import DEFAULTS
+from reference_store import files_in, twice
 
 ROOT = Path(__file__).resolve().parent.parent
 COMMANDS = ROOT / "docs/COMMANDS.md"
+STORE_FORMAT = ROOT / "docs/STORE_FORMAT.md"
 README = ROOT / "README.md"
 
 FENCED = re.compile(r"^```[^\n]*\n(.*?)^```$", re.MULTILINE | re.DOTALL)
@@ -84,6 +87,9 @@ def examples_of_the_readme_come_out():
 
 
 WRONG_EXAMPLES = [
+    ("mkdir s; backup s init", ""),
+    ("mkdir s; backup s init; backup s list", "ready\n0 a 3 1\n"),
+    ("backup s restore a; echo $?", "backup: no store\n4\n"),
     ("printf abc | backup s plan", "0 3 ba7816bf8f01cfea\n"),
     ("printf abc | backup s plan", ""),
     ("backup s plan </dev/null", "\n"),
@@ -141,3 +147,29 @@ def table_of_keys_has_the_defaults():
         default = f"{number:x}" if key == "polynomial" else str(number)
         if not any(row[0] == key and default in row for row in rows):
             raise Mismatch(f"wanted a row of {key} with {default}, came none")
+
+
+# A file in hexadecimal: its name and size, and lines of at most 16 bytes, each with a remark.
+SHOWN_FILE = re.compile(r"^`(\S+)`, (\d+) bytes:\n\n```\n(.*?)^```$", re.MULTILINE | re.DOTALL)
+COLUMNS_OF_BYTES = 3 * 16 - 1
+
+
+def files_shown_in(text):
+    files = {}
+    for name, size, lines in SHOWN_FILE.findall(text):
+        content = b"".join(bytes.fromhex(it[:COLUMNS_OF_BYTES]) for it in lines.splitlines())
+        expect_same(f"the bytes of {name}", int(size), len(content))
+        files[name] = content
+    return files
+
+
+@test
+def worked_store_is_what_the_program_writes():
+    section = STORE_FORMAT.read_text().partition("### A worked store\n")[2]
+    files = files_shown_in(section)
+    expect_files(twice(), files)
+    commands = re.findall(r"^    (.*)$", section, re.MULTILINE)
+    expect_same("the number of commands", 3, len(commands))
+    os.mkdir("s")
+    shown_by([Example(f"{command}\n", "") for command in commands])
+    expect_files(files, files_in("s"))

@@ -18,9 +18,16 @@ SECONDS = 60
 STATUSES = {
     "bad words at ": 2,
     "bad parameter: ": 14,
+    "no store": 3,
+    "store already there": 4,
+    "name taken": 5,
+    "no such session": 6,
+    "damaged ": 7,
     "input too long": 8,
+    "too many ": 9,
     "reading failed": 10,
     "writing failed": 11,
+    "store failed": 12,
     "out of memory": 13,
 }
 
@@ -48,12 +55,14 @@ class Run(NamedTuple):
     notes: bytes
 
 
-def run(words, source=b"", output=subprocess.PIPE, starter=(), changes=None):
+def run(words, source=b"", output=subprocess.PIPE, starter=(), changes=None, before_start=None):
     """Runs the program on bytes or on an open file, by itself or through a starter.
 
     It may change what is in the folder `changes` of the working folder, and nothing else.
+    The function `before_start` is called in the new process.
     """
     given = {"input" if isinstance(source, bytes) else "stdin": source}
+    given.update(preexec_fn=before_start)
     before = entries_of(room())
     came = ended([*starter, PROGRAM, *words], stdout=output, stderr=subprocess.PIPE, **given)
     if found := next(traces(before, entries_of(room()), changes), None):

@@ -36,7 +36,7 @@ class Entry(NamedTuple):
 def entry_of(path):
     status = path.lstat()
     content = b""
-    if stat.S_ISREG(status.st_mode):
+    if stat.S_ISREG(status.st_mode) and os.access(path, os.R_OK):
         content = path.read_bytes()
     elif stat.S_ISLNK(status.st_mode):
         content = os.fsencode(os.readlink(path))

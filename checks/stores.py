@@ -1,10 +1,23 @@
-"""Which STORE is taken, and that a run of `plan` leaves no trace there or elsewhere."""
+"""Which STORE is taken, and that a run leaves no trace that it should not, there or elsewhere."""
 
 import os
+import stat
 
 import reference
-from harness import STORE, each_row, expect, expect_mismatch, fresh_room, run, test
+from harness import (
+    STORE,
+    Mismatch,
+    each_row,
+    expect,
+    expect_mismatch,
+    expect_refusal,
+    expect_same,
+    fresh_room,
+    run,
+    test,
+)
 from reference import DEFAULTS
+from rooms import entries_of
 
 ABC = reference.plan(DEFAULTS, b"abc")
 
@@ -90,3 +103,53 @@ def every_trace_of_a_run_is_noticed():
 @test
 def changes_in_a_named_folder_are_allowed():
     expect(run_after("echo >>store/book; echo >store/made", changes=STORE), output=ABC)
+
+
+def folder_after(words, source=b""):
+    """What the folder STORE has after a run, as entries by their names."""
+    came = run([STORE, *words], source, changes=STORE)
+    expect_same("status and notes", (0, b""), (came.status, came.notes))
+    return entries_of(STORE)
+
+
+def changed_by(before, after):
+    return {name for name in {*before, *after} if before.get(name) != after.get(name)}
+
+
+@test
+def commands_leave_a_folder_as_they_should():
+    """The folder has other files already. Each command makes or changes its own files alone."""
+    rows = [
+        (["init"], b"", {".", "head"}),
+        (["list"], b"", set()),
+        (["ingest", "e"], b"", {".", "book.0", "seal.0"}),
+        (["ingest", "a"], b"abc", {".", "book.0", "seal.0", "container.0.0"}),
+        (["ingest", "b"], b"abc", {"book.0", "seal.0"}),
+        (["restore", "a"], b"", set()),
+        (["list"], b"", set()),
+        (["plan"], b"abc", set()),
+    ]
+    before = entries_of(STORE)
+    for words, source, changes in rows:
+        after = folder_after(words, source)
+        expect_same(f"what {words} changes", changes, changed_by(before, after))
+        before = after
+
+
+@test
+def refused_commands_leave_a_folder_as_it_was():
+    for words in (["list"], ["restore", "a"], ["ingest", "a"]):
+        expect_refusal(run([STORE, *words], b"abc"), "no store")
+    folder_after(["init"])
+    folder_after(["ingest", "a"], b"abc")
+    for words, note in ((["init"], "store already there"), (["ingest", "a"], "name taken")):
+        expect_refusal(run([STORE, *words], b"abc"), note)
+
+
+@test
+def files_of_a_store_are_plain_files():
+    folder_after(["init"])
+    entries = folder_after(["ingest", "a"], b"abc")
+    for name in ("head", "seal.0", "book.0", "container.0.0"):
+        if entries[name].mode & 0o177111 != stat.S_IFREG:
+            raise Mismatch(f"wanted a plain file {name}, came mode {entries[name].mode:o}")

@@ -1,17 +1,14 @@
 """How `backup STORE plan` reads and writes streams of every kind, and ends if one of them fails."""
 
-import fcntl
 import os
 import socket
 import tempfile
-from contextlib import contextmanager, suppress
-from threading import Thread
+from contextlib import suppress
 from time import sleep
 
 import reference
 from harness import (
     STORE,
-    Mismatch,
     closing,
     each_row,
     expect,
@@ -22,6 +19,7 @@ from harness import (
     run,
     test,
 )
+from pipes import expect_part, in_background, pipe, set_non_blocking, with_memory
 from reference import DEFAULTS, KNOWN_CUTS, LONGEST_INPUT, SPARSE_ZERO, keys_of
 
 PLAN = [STORE, "plan"]
@@ -36,25 +34,6 @@ def lines_of_zeros(length):
     """The text of a plan with many lines, one for every 64 bytes."""
     whole, rest = divmod(length, 64)
     return reference.lines_of(bytes(length), [64] * whole + [rest] * (rest > 0))
-
-
-@contextmanager
-def pipe():
-    """A pipe, open at both ends."""
-    reader, writer = os.pipe2(os.O_CLOEXEC)
-    with open(reader, "rb", buffering=0) as source, open(writer, "wb", buffering=0) as sink:
-        yield source, sink
-
-
-def set_non_blocking(file):
-    flags = fcntl.fcntl(file, fcntl.F_GETFL)
-    fcntl.fcntl(file, fcntl.F_SETFL, flags | os.O_NONBLOCK)
-
-
-def in_background(function):
-    thread = Thread(target=function, daemon=True)
-    thread.start()
-    return thread
 
 
 def trickle(text):
@@ -190,12 +169,6 @@ def output_without_a_reader_is_refused():
         expect_refusal(run(PLAN, b"abc", sink), WRITING)
 
 
-def expect_part(wanted, written):
-    """Expects some of the text from its start on, and not the whole of it."""
-    if not written or written == wanted or not wanted.startswith(written):
-        raise Mismatch(f"wanted a part of the text from its start, came {written[:200]}")
-
-
 @test
 def output_that_fills_up_has_a_part_of_the_text():
     def expect_row(blocks, length):
@@ -279,11 +252,6 @@ def status_stays_if_several_streams_are_closed():
         expect(run(PLAN, source, starter=("sh", "-c", f'exec "$@" {closed}', "sh")), status)
 
     each_row(rows, expect_row)
-
-
-def with_memory(kibibytes):
-    """A starter that lets the program have no more memory than this."""
-    return ("sh", "-c", 'ulimit -v "$0"; exec "$@"', str(kibibytes))
 
 
 @test

@@ -1,5 +1,7 @@
 """Which words are refused and with what note."""
 
+import string
+
 import reference
 from harness import (
     PROGRAM,
@@ -51,7 +53,8 @@ BAD_PARAMS = [
 @test
 def bad_parameters_are_refused_by_the_first_kind():
     def expect_row(keys, kind):
-        expect_early_refusal([STORE, "plan", *keys], f"bad parameter: {kind}")
+        for command in ("plan", "init"):
+            expect_early_refusal([STORE, command, *keys], f"bad parameter: {kind}")
 
     each_row(BAD_PARAMS, expect_row)
 
@@ -59,6 +62,7 @@ def bad_parameters_are_refused_by_the_first_kind():
 ALL_KEYS = ["polynomial=10001", "bits=9", "target=5", "min=48", "max=300"]
 
 MISSING, COMMAND, KEY, VALUE = "0: missing", "0: command", "1: key", "1: value"
+NO_NAME, NAME = "1: missing", "1: name"
 WRONG_WORDS = [
     ([], MISSING),
     ([""], MISSING),
@@ -84,16 +88,53 @@ WRONG_WORDS = [
     (["store", "plän"], COMMAND),
     (["store", "ｐlan"], COMMAND),
     (["store", "store", "plan"], COMMAND),
-    # Commands of a store are not built.
-    (["store", "init"], COMMAND),
-    (["store", "ingest", "a"], COMMAND),
+    (["store", "Init"], COMMAND),
+    (["store", "ingests", "a"], COMMAND),
+    (["store", "lists"], COMMAND),
+    (["store", "ls"], COMMAND),
+    (["store", "restor", "a"], COMMAND),
+    (["init"], MISSING),
+    (["list"], MISSING),
+    (["ingest", "a"], COMMAND),
+    # These commands are not built.
     (["store", "bulk", "7", "1"], COMMAND),
-    (["store", "list"], COMMAND),
-    (["store", "restore", "a"], COMMAND),
     (["store", "drop", "a"], COMMAND),
     (["store", "refs"], COMMAND),
     (["store", "audit"], COMMAND),
+    (["store", "list", "a"], KEY),
+    (["store", "list", "bits=9"], KEY),
+    (["store", "list", ""], KEY),
+    (["store", "list", "--help"], KEY),
+    (["store", "list", "list"], KEY),
+    (["store", "init", "a"], KEY),
+    (["store", "init", "workers=2"], KEY),
+    (["store", "init", "batch=65536"], KEY),
+    (["store", "init", ""], KEY),
+    (["store", "init", "bits"], KEY),
+    (["store", "init", "bits=09"], VALUE),
+    (["store", "init", "min=4294967296"], VALUE),
+    (["store", "init", "polynomial=0x11"], VALUE),
+    (["store", "init", "bits=9", "bits=9"], "2: twice"),
+    (["store", "init", *ALL_KEYS, "init"], "6: key"),
+    (["store", "ingest"], NO_NAME),
+    (["store", "restore"], NO_NAME),
+    (["store", "ingest", "a", "b"], "2: key"),
+    (["store", "restore", "a", "b"], "2: key"),
+    (["store", "restore", "a", ""], "2: key"),
+    (["store", "restore", "a", "bits=9"], "2: key"),
+    (["store", "ingest", "a", "bits=9"], "2: key"),
+    (["store", "ingest", "a", "seed=1"], "2: key"),
+    # Keys of an ingest are not built.
+    (["store", "ingest", "a", "workers=2"], "2: key"),
+    (["store", "ingest", "a", "segment=65536"], "2: key"),
+    (["store", "ingest", "a", "batch=65536"], "2: key"),
+    (["store", "ingest", "a", "shards=1"], "2: key"),
+    # The name is looked at before the words after it.
+    (["store", "ingest", ".a", "b"], NAME),
+    (["store", "restore", "--name", "a"], NAME),
     # If a word is not UTF-8, its place is not known.
+    (["store", "ingest", b"a\xff"], COMMAND),
+    (["store", "restore", b"\xff"], COMMAND),
     (["store", b"\xff"], COMMAND),
     (["store", "plan", b"\xff"], COMMAND),
     (["store", "plan", "bits=9", b"bits=\xff"], COMMAND),
@@ -185,6 +226,67 @@ def wrong_words_are_refused_by_their_place():
         expect_early_refusal(words, f"bad words at {end}")
 
     each_row(WRONG_WORDS, expect_row)
+
+
+BAD_NAMES = [
+    "",
+    " ",
+    ".",
+    "..",
+    ".a",
+    "_a",
+    "-a",
+    "--",
+    "-",
+    "a b",
+    " a",
+    "a ",
+    "a\n",
+    "\na",
+    "a\t",
+    "a/b",
+    "/",
+    "a=b",
+    "a:b",
+    "a,b",
+    "a*",
+    "a~",
+    "a+b",
+    "a@b",
+    "[a]",
+    "`a`",
+    "a{",
+    "\x7f",
+    "a\x01",
+    "ö",
+    "aö",
+    "ａ",
+    "a\u0301",
+    "a" * 65,
+    "a" * 2**8,
+    "a" * (2**8 + 1),
+    "a" * 2**16,
+    "a" * 131_000,
+    "ö" * 32,
+    "a" * 63 + "ö",
+]
+
+
+@test
+def names_that_are_none_are_refused():
+    def expect_row(name):
+        for command in ("ingest", "restore"):
+            expect_early_refusal([STORE, command, name], f"bad words at {NAME}")
+
+    each_row(((name,) for name in BAD_NAMES), expect_row)
+
+
+@test
+def names_of_every_letter_are_taken():
+    letters = string.ascii_letters + string.digits
+    for name in [*letters, *(f"a{it}" for it in letters + "._-"), "a" * 64, "A-.-_" * 12]:
+        for command in ("ingest", "restore"):
+            expect_early_refusal([STORE, command, name], "no store")
 
 
 @test

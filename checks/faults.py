@@ -1,0 +1,320 @@
+"""What a store is worth if a call of the system fails: on folders, files, handles or memory."""
+
+import os
+import socket
+import subprocess
+from pathlib import Path
+from random import Random
+
+from folders import (
+    COMMANDS,
+    FOLDER,
+    INGESTED,
+    INIT,
+    LISTED,
+    OUTPUTS,
+    TEXT,
+    expect_committed,
+    expect_files,
+    with_ingest,
+)
+from harness import (
+    each_row,
+    expect,
+    expect_refusal,
+    expect_same,
+    fresh_room,
+    run,
+    test,
+)
+from pipes import limiting_files, with_memory
+from reference import DEFAULTS
+from reference_store import OPEN_HEAD, files_in, ingest, init, twice, write_files
+
+NO_STORE, STORE = "no store", "store failed"
+
+
+def expect_one_of(came, notes):
+    """Expects one of these refusals."""
+    note = next((it for it in notes if came.notes == f"backup: {it}\n".encode()), notes[0])
+    expect_refusal(came, note)
+
+
+# What is in the place of a folder or of a file.
+
+
+@test
+def folder_that_is_not_there_has_no_store_and_is_not_made():
+    def expect_row(folder):
+        for words in COMMANDS:
+            expect_refusal(run([folder, *words], b"abc"), NO_STORE)
+        expect_refusal(run([folder, "init"]), STORE)
+
+    os.symlink("nowhere", "dangling")
+    each_row([("no",), ("no/such/folder",), ("dangling",), ("",)], expect_row)
+
+
+@test
+def folder_that_cannot_be_looked_into_has_failed():
+    def expect_row(folder):
+        for words in [*COMMANDS, ["init"]]:
+            expect_refusal(run([folder, *words], b"abc"), STORE)
+
+    os.symlink("loop", "loop")
+    each_row([("loop",), ("loop/s",), ("s" * 256,), ("s/" * 3000,), ("s" * 131_000,)], expect_row)
+
+
+@test
+def file_in_the_place_of_the_folder_is_refused():
+    Path("file").write_bytes(b"kept")
+    for folder in ("file", "file/s", "/dev/null"):
+        for words in COMMANDS:
+            expect_one_of(run([folder, *words], b"abc"), [STORE, NO_STORE])
+        expect_refusal(run([folder, "init"]), STORE)
+
+
+def make_socket(path):
+    with socket.socket(socket.AF_UNIX) as made:
+        made.bind(os.fspath(path))
+
+
+THINGS = {
+    "folder": os.mkdir,
+    "pipe": os.mkfifo,
+    "socket": make_socket,
+    "link to itself": lambda path: os.symlink(path.name, path),
+    "link to a folder": lambda path: os.symlink("..", path),
+    "device": lambda path: os.symlink("/dev/null", path),
+    "endless device": lambda path: os.symlink("/dev/zero", path),
+}
+
+
+def put_in_the_place_of(name, make):
+    write_files(FOLDER, twice())
+    path = Path(FOLDER, name)
+    path.unlink(missing_ok=True)
+    make(path)
+
+
+@test
+def what_is_no_file_has_failed_as_one():
+    def expect_row(name, thing):
+        with fresh_room():
+            put_in_the_place_of(name, THINGS[thing])
+            for words in COMMANDS:
+                expect_refusal(run([FOLDER, *words], TEXT), STORE)
+
+    each_row(((name, thing) for name in twice() for thing in THINGS), expect_row)
+
+
+@test
+def what_is_no_file_is_not_made_a_store():
+    def expect_row(name, thing):
+        with fresh_room():
+            os.mkdir(FOLDER)
+            THINGS[thing](Path(FOLDER, name))
+            expect_refusal(run([FOLDER, "init"], changes=FOLDER), STORE)
+
+    each_row(((name, thing) for name in ("head", "seal.0") for thing in THINGS), expect_row)
+
+
+@test
+def what_is_in_the_place_of_a_new_container_leaves_the_store_as_it_was():
+    def expect_row(thing):
+        with fresh_room():
+            files = {}
+            init(files, DEFAULTS)
+            ingest(files, b"e", b"")
+            write_files(FOLDER, files)
+            THINGS[thing](Path(FOLDER, "container.0.0"))
+            expect_refusal(run([FOLDER, "ingest", "n"], b"abc", changes=FOLDER), STORE)
+            expect(run([FOLDER, "list"]), output=b"0 e 0 0\n")
+
+    each_row(((thing,) for thing in THINGS), expect_row)
+
+
+@test
+def link_to_a_file_is_followed():
+    write_files(FOLDER, twice())
+    for name in twice():
+        os.rename(f"{FOLDER}/{name}", f"nest/{name}")
+        os.symlink(f"../nest/{name}", f"{FOLDER}/{name}")
+    expect(run([FOLDER, "list"]), output=LISTED)
+    expect(run([FOLDER, "restore", "b"]), output=bytes(200))
+
+
+# Permissions.
+
+
+def under_permissions():
+    """A starter under which permissions hold back every user, or None if there is none."""
+    if os.geteuid():
+        return ("env",)
+    powers = "-dac_override,-dac_read_search"
+    starter = ("setpriv", f"--bounding-set={powers}", f"--inh-caps={powers}")
+    Path("shut").touch(mode=0)
+    try:
+        is_held_back = subprocess.run([*starter, "cat", "shut"], capture_output=True).returncode
+    except FileNotFoundError:
+        is_held_back = False
+    os.unlink("shut")
+    return starter if is_held_back else None
+
+
+def expect_under_permissions(what, each):
+    starter = under_permissions()
+    if starter is None:
+        print(f"{what} were not tried: permissions do not hold root back, and setpriv does not")
+    else:
+        each(starter)
+
+
+# Which commands have failed if a file has this mode. Sizes alone need no permission on a file.
+MODES = [
+    ("head", 0, ["list", "restore", "ingest"]),
+    ("book.0", 0, ["list", "restore", "ingest"]),
+    ("container.0.0", 0, ["restore", "ingest"]),
+    ("seal.0", 0, ["ingest"]),
+    ("head", 0o400, []),
+    ("book.0", 0o400, ["ingest"]),
+    ("container.0.0", 0o400, ["ingest"]),
+    ("seal.0", 0o400, ["ingest"]),
+]
+
+
+@test
+def files_without_permission_have_failed():
+    def expect_row(starter, name, mode, failing):
+        for words in COMMANDS:
+            write_files(FOLDER, twice())
+            os.chmod(f"{FOLDER}/{name}", mode)
+            came = run([FOLDER, *words], TEXT, starter=starter, changes=FOLDER)
+            os.chmod(f"{FOLDER}/{name}", 0o644)
+            if words[0] in failing:
+                expect_refusal(came, STORE)
+                expect_committed()
+            else:
+                expect(came, output=OUTPUTS[words[0]])
+
+    def each(starter):
+        each_row(((starter, *row) for row in MODES), expect_row)
+
+    expect_under_permissions("files without permission", each)
+
+
+@test
+def folders_without_permission_have_failed():
+    def run_in(mode, words, starter):
+        os.chmod(FOLDER, mode)
+        try:
+            return run([FOLDER, *words], TEXT, starter=starter, changes=FOLDER)
+        finally:
+            os.chmod(FOLDER, 0o755)
+
+    def each(starter):
+        write_files(FOLDER, twice())
+        for words in [*COMMANDS, INIT]:
+            expect_refusal(run_in(0, words, starter), STORE)
+        # Nothing can be made in a folder that cannot be written.
+        expect(run_in(0o500, ["list"], starter), output=LISTED)
+        expect(run_in(0o500, ["restore", "a"], starter), output=bytes(200))
+        expect_committed()
+        write_files(FOLDER, {})
+        expect_refusal(run_in(0o500, INIT, starter), STORE)
+        expect(run([FOLDER, *INIT], changes=FOLDER), output=b"ready\n")
+
+    expect_under_permissions("folders without permission", each)
+
+
+# Handles and sizes of files.
+
+
+@test
+def few_handles_leave_the_store_as_it_was():
+    statuses = set()
+
+    def expect_row(handles):
+        with fresh_room():
+            write_files(FOLDER, twice())
+            starter = ("sh", "-c", f'ulimit -n {handles}; exec "$@"', "sh")
+            came = run([FOLDER, "ingest", "n"], TEXT, starter=starter, changes=FOLDER)
+            statuses.add(came.status)
+            if came.status == 0:
+                expect_files(with_ingest(twice()), files_in(FOLDER))
+            else:
+                expect_refusal(came, STORE)
+                expect_committed()
+
+    # Fewer than four do not let the program begin.
+    each_row([(handles,) for handles in (4, 5, 6, 7, 8, 9, 10, 12, 16, 40)], expect_row)
+    expect_same("whether 40 handles do", True, 0 in statuses)
+
+
+@test
+def ingest_that_fails_at_any_length_of_a_file_leaves_what_was_committed():
+    whole = with_ingest(twice())
+    longest = max(map(len, whole.values()))
+
+    def expect_row(length):
+        write_files(FOLDER, twice())
+        words = [FOLDER, "ingest", "n"]
+        came = run(words, TEXT, changes=FOLDER, before_start=limiting_files(length))
+        if length < longest:
+            expect_refusal(came, STORE)
+            expect_committed()
+        else:
+            expect(came, output=INGESTED)
+            expect_files(whole, files_in(FOLDER))
+
+    each_row([(length,) for length in range(longest + 2)], expect_row)
+
+
+@test
+def init_that_fails_at_any_length_of_a_file_can_be_made_again():
+    words = [FOLDER, *INIT]
+
+    def expect_row(length):
+        write_files(FOLDER, {"seal.0": b"SSS"})
+        came = run(words, changes=FOLDER, before_start=limiting_files(length))
+        if length < OPEN_HEAD:
+            expect_refusal(came, STORE)
+            expect_refusal(run([FOLDER, "list"]), NO_STORE)
+            came = run(words, changes=FOLDER)
+        expect(came, output=b"ready\n")
+        expect_files({"head": twice()["head"]}, files_in(FOLDER))
+
+    each_row([(length,) for length in range(OPEN_HEAD + 2)], expect_row)
+
+
+@test
+def container_that_fails_at_drawn_lengths_leaves_what_was_committed():
+    draw = Random(31)
+    text = draw.randbytes(300_000)
+    files = {}
+    init(files, DEFAULTS)
+    for length in [0, 7, 8, 9, *(draw.randrange(290_000) for _ in range(8))]:
+        write_files(FOLDER, files)
+        words = [FOLDER, "ingest", "n"]
+        came = run(words, text, changes=FOLDER, before_start=limiting_files(length))
+        expect_refusal(came, STORE)
+        expect(run([FOLDER, "list"]))
+        came = run(words, text, changes=FOLDER)
+        expect_same("the status of the next ingest", 0, came.status)
+        expect(run([FOLDER, "restore", "n"]), output=text)
+
+
+@test
+def memory_that_is_too_little_leaves_what_was_committed():
+    text, statuses = bytes(8_000_000), set()
+    for kibibytes in range(8_000, 60_000, 4_000):
+        write_files(FOLDER, twice())
+        starter = with_memory(kibibytes)
+        came = run([FOLDER, "ingest", "n"], text, starter=starter, changes=FOLDER)
+        statuses.add(came.status)
+        if came.status == 0:
+            expect(run([FOLDER, "restore", "n"]), output=text)
+        else:
+            expect_refusal(came, "out of memory")
+        for name in "ab":
+            expect(run([FOLDER, "restore", name]), output=bytes(200))
+    expect_same("statuses from too little memory to enough", {0, 13}, statuses)

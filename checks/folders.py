@@ -1,0 +1,95 @@
+"""Runs the program on a store in a folder, beside the second implementation on files in memory."""
+
+import reference_store
+from harness import Mismatch, Run, expect, run, status_of
+from reference import SPARSE_ZERO, keys_of
+from reference_store import Refusal, files_in, ingest, twice, write_files
+
+# The folder of the store that a test makes for itself.
+FOLDER = "s"
+
+# What the commands print over the store `twice`, if `ingest` has this input. It has a chunk of the
+# store and a new one.
+INIT = ["init", *keys_of(SPARSE_ZERO)]
+COMMANDS = [["list"], ["restore", "a"], ["ingest", "n"]]
+TEXT = bytes(64) + b"abc" * 50
+LISTED = b"0 a 200 4\n1 b 200 4\n"
+INGESTED = b"ingested n 214 bytes 2 places 1 new\n"
+OUTPUTS = {"init": b"ready\n", "list": LISTED, "restore": bytes(200), "ingest": INGESTED}
+
+
+def wanted_run(command, files, *given):
+    """The run that a command of the second implementation is. It may change the files."""
+    try:
+        return Run(0, command(files, *given), b"")
+    except Refusal as refusal:
+        return refused(refusal.note, refusal.written)
+
+
+def refused(note, written=b""):
+    return Run(status_of(note), written, f"backup: {note}\n".encode())
+
+
+def expect_files(wanted, came):
+    """Expects exactly these files. An empty file is as good as none."""
+    for name in sorted({*wanted, *came}):
+        one, other = wanted.get(name, b""), came.get(name, b"")
+        if one != other:
+            raise Mismatch(f"{name}: {file_difference(one, other)}")
+
+
+def file_difference(wanted, came):
+    pairs = enumerate(zip(wanted, came))
+    offset = next((at for at, (one, other) in pairs if one != other), min(len(wanted), len(came)))
+    part = slice(offset, offset + 20)
+    return (
+        f"wanted {len(wanted)} bytes, came {len(came)}; at {offset}: "
+        f"wanted {wanted[part].hex()}, came {came[part].hex()}"
+    )
+
+
+def with_ingest(files, name=b"n", text=TEXT):
+    """The files after one more ingest."""
+    later = dict(files)
+    ingest(later, name, text)
+    return later
+
+
+def expect_committed():
+    """Expects that the store has its two sessions and no other, and that the next is taken in."""
+    expect(run([FOLDER, "list"]), output=LISTED)
+    expect(run([FOLDER, "restore", "b"]), output=bytes(200))
+    expect(run([FOLDER, "ingest", "n"], TEXT, changes=FOLDER), output=INGESTED)
+    expect_files(with_ingest(twice()), files_in(FOLDER))
+
+
+class Twin:
+    """A store in a folder, and the files that it should have."""
+
+    def __init__(self, files=None):
+        self.files = dict(files or {})
+        write_files(FOLDER, self.files)
+
+    def expect(self, words, wanted, source=b""):
+        """Expects this run, and these files after it. A run that reads or is refused leaves all."""
+        writes = wanted.status == 0 and words[0] in ("init", "ingest")
+        came = run([FOLDER, *words], source, changes=FOLDER if writes else None)
+        expect(came, *wanted)
+        expect_files(self.files, files_in(FOLDER))
+
+    def init(self, params):
+        wanted = wanted_run(reference_store.init, self.files, params)
+        self.expect(["init", *keys_of(params)], wanted)
+
+    def ingest(self, name, text):
+        wanted = wanted_run(ingest, self.files, name.encode(), text)
+        self.expect(["ingest", name], wanted, text)
+        return wanted
+
+    def list(self):
+        self.expect(["list"], wanted_run(reference_store.list_sessions, self.files))
+
+    def restore(self, name):
+        wanted = wanted_run(reference_store.restore, self.files, name.encode())
+        self.expect(["restore", name], wanted)
+        return wanted

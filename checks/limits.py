@@ -1,0 +1,154 @@
+"""Which inputs and sessions are too many or too long for a store, and the most that it takes."""
+
+import struct
+import tempfile
+from pathlib import Path
+
+from folders import FOLDER, Twin, expect_files
+from harness import expect, expect_refusal, expect_same, file_of, position_of, run, test
+from reference import DEFAULTS, LONGEST_INPUT
+from reference_store import (
+    MAX_CHUNKS,
+    MAX_CONTAINER,
+    MAX_PLACES,
+    MAX_SESSIONS,
+    Drop,
+    Ingest,
+    body_of_ingest,
+    container_header,
+    files_in,
+    sealed,
+    settings_of,
+    spelling_of,
+    u32,
+    write_files,
+)
+
+ZERO = bytes.fromhex("6e340b9cffb37a989ca544e6bb780a2c78901d3fb33738768511a30617afa01d")
+HEAD = settings_of(DEFAULTS) + b"S"
+
+
+def write_book(records, containers):
+    """Makes a store whose book has these records."""
+    files = {"head": HEAD, "seal.0": b"S" * len(records), "book.0": b"".join(records)}
+    write_files(FOLDER, files | containers)
+
+
+def ingest_line(name, length, places, fresh):
+    return f"ingested {name} {length} bytes {places} places {fresh} new\n".encode()
+
+
+def expect_untouched_by(words, source, note):
+    """Expects a refusal that reads no byte and leaves the files as they are."""
+    before = files_in(FOLDER)
+    with file_of(source) as file:
+        expect_refusal(run([FOLDER, *words], file), note)
+        expect_same("bytes taken", 0, position_of(file))
+    expect_files(before, files_in(FOLDER))
+
+
+@test
+def longest_input_is_taken_in_and_a_longer_one_is_not():
+    Twin().init(DEFAULTS)
+    with tempfile.TemporaryFile() as zeros:
+        zeros.truncate(LONGEST_INPUT + 1)
+        expect_refusal(run([FOLDER, "ingest", "z"], zeros, changes=FOLDER), "input too long")
+        expect_same("bytes taken", LONGEST_INPUT + 1, position_of(zeros))
+        expect(run([FOLDER, "list"]))
+        zeros.truncate(LONGEST_INPUT)
+        zeros.seek(0)
+        came = run([FOLDER, "ingest", "z"], zeros, changes=FOLDER)
+    expect(came, output=ingest_line("z", LONGEST_INPUT, 4096, 1))
+    expect_same("bytes of the container", 65_544, Path(FOLDER, "container.0.0").stat().st_size)
+    with tempfile.TemporaryFile() as file:
+        expect(run([FOLDER, "restore", "z"], b"", file))
+        file.seek(0)
+        zeros = bytes(2**20)
+        while piece := file.read(2**20):
+            expect_same("a piece of the session", zeros, piece)
+        expect_same("bytes of the session", LONGEST_INPUT, file.tell())
+
+
+def empty_sessions(count):
+    return [spelling_of(Ingest(b"s%d" % number, 0, [], [])) for number in range(count)]
+
+
+@test
+def sessions_up_to_their_number_are_taken_in():
+    write_book(empty_sessions(MAX_SESSIONS - 1), {})
+    came = run([FOLDER, "ingest", "x"], b"abc", changes=FOLDER)
+    expect(came, output=ingest_line("x", 3, 1, 1))
+    expect_untouched_by(["ingest", "x"], b"abc", "name taken")
+    expect_untouched_by(["ingest", "y"], b"abc", "too many sessions")
+    lines = [f"{number} s{number} 0 0\n" for number in range(MAX_SESSIONS - 1)]
+    expect(run([FOLDER, "list"]), output="".join([*lines, "4095 x 3 1\n"]).encode())
+
+
+@test
+def dropped_sessions_count_as_sessions():
+    drops = [spelling_of(Drop(number)) for number in range(MAX_SESSIONS)]
+    write_book([*empty_sessions(MAX_SESSIONS), *drops], {})
+    expect(run([FOLDER, "list"]))
+    expect_untouched_by(["ingest", "s1"], b"abc", "too many sessions")
+    expect_untouched_by(["restore", "s1"], b"abc", "no such session")
+
+
+def zero_chunks(count):
+    """The new chunks of a record: the zero byte, so many times."""
+    return (u32(1) + ZERO) * count
+
+
+def record_of_zeros(name, chunks, places, recipe):
+    """The record of a session of so many places, each the zero byte."""
+    body = body_of_ingest(name, places, chunks, zero_chunks(chunks), places, recipe)
+    return sealed(b"I", body)
+
+
+def containers_of_zeros(count):
+    """The containers of so many chunks, each the zero byte."""
+    in_one, containers = MAX_CONTAINER - 8, {}
+    for number, start in enumerate(range(0, count, in_one)):
+        content = container_header(number) + bytes(min(in_one, count - start))
+        containers[f"container.0.{number}"] = content
+    return containers
+
+
+def expect_refused_after_reading(source, note):
+    with file_of(source) as file:
+        expect_refusal(run([FOLDER, "ingest", "x"], file, changes=FOLDER), note)
+        expect_same("bytes taken", len(source), position_of(file))
+
+
+@test
+def places_up_to_their_number_are_taken_in():
+    recipe = bytes(4 * (MAX_PLACES - 1))
+    write_book([record_of_zeros(b"p", 1, MAX_PLACES - 1, recipe)], containers_of_zeros(1))
+    came = run([FOLDER, "ingest", "q"], b"\x00", changes=FOLDER)
+    expect(came, output=ingest_line("q", 1, 1, 0))
+    expect_refused_after_reading(b"abc", "too many places")
+    expect(run([FOLDER, "ingest", "x"], changes=FOLDER), output=ingest_line("x", 0, 0, 0))
+    lines = f"0 p {MAX_PLACES - 1} {MAX_PLACES - 1}\n1 q 1 1\n2 x 0 0\n"
+    expect(run([FOLDER, "list"]), output=lines.encode())
+
+
+@test
+def book_with_too_many_places_is_damaged():
+    records = [record_of_zeros(b"p", 1, MAX_PLACES, bytes(4 * MAX_PLACES))]
+    write_book([*records, spelling_of(Ingest(b"q", 0, [], []))], containers_of_zeros(1))
+    expect(run([FOLDER, "list"]), output=f"0 p {MAX_PLACES} {MAX_PLACES}\n1 q 0 0\n".encode())
+    write_book([*records, record_of_zeros(b"q", 0, 1, u32(0))], containers_of_zeros(1))
+    expect_refusal(run([FOLDER, "list"]), "damaged record 1")
+
+
+@test
+def chunks_up_to_their_number_are_taken_in():
+    recipe = struct.pack(f">{MAX_CHUNKS - 1}I", *range(MAX_CHUNKS - 1))
+    record = record_of_zeros(b"c", MAX_CHUNKS - 1, MAX_CHUNKS - 1, recipe)
+    write_book([record], containers_of_zeros(MAX_CHUNKS - 1))
+    came = run([FOLDER, "ingest", "d"], b"abc", changes=FOLDER)
+    expect(came, output=ingest_line("d", 3, 1, 1))
+    expect_same("the last container", 18, Path(FOLDER, "container.0.1").stat().st_size)
+    expect_refused_after_reading(b"abcd", "too many chunks")
+    # A chunk that is stored needs no number.
+    came = run([FOLDER, "ingest", "x"], b"abc", changes=FOLDER)
+    expect(came, output=ingest_line("x", 3, 1, 0))
