@@ -31,7 +31,8 @@ LENGTH_OF_A_CHUNK = 8
 
 def files_of_the_tree():
     """The sources of this project, by their paths."""
-    paths = [it for it in ROOT.glob("*/**/*") if it.suffix in (".rt", ".antt", ".py", ".md")]
+    kinds = (".rt", ".antt", ".py", ".md")
+    paths = [it for it in ROOT.glob("*/**/*") if it.suffix in kinds and "out" not in it.parts]
     return {str(it.relative_to(ROOT)): it.read_bytes() for it in sorted(paths)}
 
 
