@@ -150,6 +150,8 @@ def refused_commands_leave_a_folder_as_it_was():
 def files_of_a_store_are_plain_files():
     folder_after(["init"])
     entries = folder_after(["ingest", "a"], b"abc")
+    os.umask(mask := os.umask(0))
+    wanted = stat.S_IFREG | 0o666 & ~mask
     for name in ("head", "seal.0", "book.0", "container.0.0"):
-        if entries[name].mode & 0o177111 != stat.S_IFREG:
-            raise Mismatch(f"wanted a plain file {name}, came mode {entries[name].mode:o}")
+        if entries[name].mode != wanted:
+            raise Mismatch(f"wanted mode {wanted:o} of {name}, came {entries[name].mode:o}")
