@@ -31,6 +31,7 @@ from reference_store import (
     twice,
     write_files,
 )
+from rooms import WORK
 
 # Chunks so short that a small input has many.
 SHORT = Params(polynomial=0x1A5C3F9D7, bits=6, target=9, min=48, max=300)
@@ -341,7 +342,7 @@ def dropped_session_is_not_shown_and_its_name_is_free():
 
 
 # Names of the folder of a store, from the working folder.
-FOLDERS = ["./s/", "s//", "../work/s", "störe", "a folder", "--", "-", "init", "bits=9", "\n"]
+FOLDERS = ["./s/", "s//", f"../{WORK}/s", "störe", "a folder", "--", "-", "init", "bits=9", "\n"]
 
 
 @test
