@@ -14,6 +14,7 @@
 
 mod damage;
 mod file;
+mod gate;
 mod how;
 mod laws;
 mod limits;
@@ -28,6 +29,7 @@ mod words;
 
 pub use damage::Damage;
 pub use file::File;
+pub use gate::{Gate, OpenGate, Stage};
 pub use how::How;
 pub use laws::{
     chunks_cover_the_input, chunks_go_on_in_the_tail, names_are_the_refusals,
