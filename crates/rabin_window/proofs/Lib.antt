@@ -12,3 +12,5 @@ pub mod Roll
 pub mod Ring
 -- a table that is filled entry by entry
 pub mod Entries
+-- linear functions of a byte, of which tables are made from eight values
+pub mod Linear

@@ -10,7 +10,7 @@ use Rattle.sd_base.specs.Parameters.{IsPolynomial}
 use Rattle.sd_base.specs.Polynomial.{degree, append_bit, fingerprint}
 use Rattle.sd_base.specs.declared.limits.TheConstants.{WINDOW}
 use Rattle.rabin_window.specs.Division.{byte_bits, append_byte}
-use Rattle.rabin_window.specs.Tables.{leaving_entry, appending_entry, AreTables}
+use Rattle.rabin_window.specs.Tables.{leaving_entry, appending_entry, IsAppendingTable, IsLeavingTable}
 use Rattle.rabin_window.proofs.Bits.{AllBits-byte_bits, length-byte_bits, xor_zero_byte, spelled-byte_bits}
 use Rattle.rabin_window.proofs.Degree.{degree_place}
 use Rattle.rabin_window.proofs.Fold.{fingerprint_by_bytes}
@@ -134,65 +134,45 @@ module _ (p k mask r b : ℕ) (is : k + 8 ≡ degree p) (within : degree p < 64)
   pub step_is : bit_xor (bit_or (bit_and r mask * 256 % 2 ^ 64) b) (appending_entry p (r / 2 ^ k)) ≡ append_byte p r b
   step_is = ap (λ x. bit_xor x (appending_entry p (r / 2 ^ k))) low_is ∙ appended_is p k r b is few
 
--- ---- the step by tables, as the code takes it; `leaving'` and `entering'` are the bytes as the
--- code has them
+-- ---- a byte is appended by the table, as the code does it; `byte'` is the byte as the code has it
+
+abbrev pub appended : List ℕ → ℕ → ℕ → ℕ → ℕ → ℕ
+appended entries k mask r byte' = bit_xor (bit_or (bit_and r mask * 256 % 2 ^ 64) byte') (get_or entries (r / 2 ^ k) 0)
+
+module _ {p k mask : ℕ} {entries : List ℕ} (table : IsAppendingTable p k mask entries) (valid : IsPolynomial p) where
+  -- the highest bits are the index of an entry
+  pub high_below : (r : ℕ) → r < 2 ^ degree p → r / 2 ^ k < 256
+  high_below r below =
+      let turned : degree p ≡ 8 + k = omega (arith, table.highest_byte) in
+      shr_below r 8 k (subst (λ d. r < 2 ^ d) turned below)
+
+  pub appended_by_table : (r byte byte' : ℕ) → r < 2 ^ degree p → byte' ≡ byte → byte < 256
+      → appended entries k mask r byte' ≡ append_byte p r byte
+  appended_by_table r byte byte' below byte_is few =
+      let place = degree_place p (omega arith) valid.1 in
+      ap (bit_xor (bit_or (bit_and r mask * 256 % 2 ^ 64) byte')) (table.appends (r / 2 ^ k) (high_below r below))
+      ∙ ap (λ b. bit_xor (bit_or (bit_and r mask * 256 % 2 ^ 64) b) (appending_entry p (r / 2 ^ k))) byte_is
+      ∙ step_is p k mask r byte table.highest_byte place.2 table.masked few
+
+-- ---- the oldest byte leaves by the table, as the code does it; `leaving'` is the byte as the code
+-- has it
 
 -- the remainder without what the oldest byte adds
 abbrev pub kept : List ℕ → ℕ → ℕ → ℕ
-kept leaving_entries value leaving = bit_xor value (get_or leaving_entries leaving 0)
+kept entries value leaving = bit_xor value (get_or entries leaving 0)
 
--- that, with a byte appended
-abbrev pub appended : List ℕ → ℕ → ℕ → ℕ → ℕ → ℕ
-appended appending_entries k mask r entering = bit_xor (bit_or (bit_and r mask * 256 % 2 ^ 64) entering) (get_or appending_entries (r / 2 ^ k) 0)
+module _ {p : ℕ} {entries : List ℕ} (table : IsLeavingTable p entries) (valid : IsPolynomial p) (value leaving leaving' : ℕ)
+    (leaving_is : leaving' ≡ leaving) (few : leaving < 256) where
+  leaves_is : get_or entries leaving' 0 ≡ leaving_entry p leaving
+  leaves_is = ap (λ b. get_or entries b 0) leaving_is ∙ table.leaves leaving few
 
-module _ {p k mask : ℕ} {leaving_entries appending_entries : List ℕ}
-    (tables : AreTables p k mask leaving_entries appending_entries) (valid : IsPolynomial p) where
-  leaves_is : (leaving leaving' : ℕ) → leaving' ≡ leaving → leaving < 256
-      → get_or leaving_entries leaving' 0 ≡ leaving_entry p leaving
-  leaves_is leaving leaving' leaving_is few = ap (λ b. get_or leaving_entries b 0) leaving_is ∙ tables.leaves leaving few
+  pub kept_below : value < 2 ^ degree p → kept entries value leaving' < 2 ^ degree p
+  kept_below below =
+      xor_lt (degree p) value (get_or entries leaving' 0) below
+      (subst (λ x. x < 2 ^ degree p) (sym leaves_is) (leaving_entry_below p leaving (omega arith) valid.1))
 
-  kept_below : (value leaving leaving' : ℕ) → leaving' ≡ leaving → leaving < 256 → value < 2 ^ degree p
-      → kept leaving_entries value leaving' < 2 ^ degree p
-  kept_below value leaving leaving' leaving_is few below =
-      xor_lt (degree p) value (get_or leaving_entries leaving' 0) below
-      (subst (λ x. x < 2 ^ degree p) (sym (leaves_is leaving leaving' leaving_is few)) (leaving_entry_below p leaving (omega arith) valid.1))
-
-  -- the highest bits are the index of an entry
-  pub high_below : (value leaving leaving' : ℕ) → leaving' ≡ leaving → leaving < 256 → value < 2 ^ degree p
-      → kept leaving_entries value leaving' / 2 ^ k < 256
-  high_below value leaving leaving' leaving_is few below =
-      let turned : degree p ≡ 8 + k = omega (arith, tables.highest_byte) in
-      shr_below (kept leaving_entries value leaving') 8 k
-      (subst (λ d. kept leaving_entries value leaving' < 2 ^ d) turned (kept_below value leaving leaving' leaving_is few below))
-
-  appended_by_table : (r entering entering' : ℕ) → r / 2 ^ k < 256 → entering' ≡ entering → entering < 256
-      → appended appending_entries k mask r entering' ≡ append_byte p r entering
-  appended_by_table r entering entering' high entering_is few =
-      let place = degree_place p (omega arith) valid.1 in
-      ap (bit_xor (bit_or (bit_and r mask * 256 % 2 ^ 64) entering')) (tables.appends (r / 2 ^ k) high)
-      ∙ ap (λ b. bit_xor (bit_or (bit_and r mask * 256 % 2 ^ 64) b) (appending_entry p (r / 2 ^ k))) entering_is
-      ∙ step_is p k mask r entering tables.highest_byte place.2 tables.masked few
-
-  module _ (value leaving leaving' entering entering' : ℕ) (leaving_is : leaving' ≡ leaving) (entering_is : entering' ≡ entering)
-      (few_leaving : leaving < 256) (few_entering : entering < 256)
-      (below : value < 2 ^ degree p) where
-    moved_is : appended appending_entries k mask (kept leaving_entries value leaving') entering'
-        ≡ append_byte p (kept leaving_entries value leaving') entering
-    moved_is =
-        appended_by_table (kept leaving_entries value leaving') entering entering'
-        (high_below value leaving leaving' leaving_is few_leaving below) entering_is few_entering
-
-    pub rolled : (window : List ℕ) → length window ≡ WINDOW → get_or window 0 0 ≡ leaving → value ≡ fingerprint p window
-        → appended appending_entries k mask (kept leaving_entries value leaving') entering'
-        ≡ fingerprint p (drop 1 window ++ entering ∷ [])
-    rolled window size oldest value_is =
-        moved_is
-        ∙ ap (λ t. append_byte p t entering) (ap₂ bit_xor value_is (leaves_is leaving leaving' leaving_is few_leaving)
-        ∙ kept_is p leaving window size oldest)
-        ∙ sym (fingerprint_push p (drop 1 window) entering)
-
-    pub rolled_below : appended appending_entries k mask (kept leaving_entries value leaving') entering' < 2 ^ degree p
-    rolled_below =
-        subst (λ x. x < 2 ^ degree p) (sym moved_is)
-        (append_byte_below p (kept leaving_entries value leaving') entering (omega arith) valid.1
-        (kept_below value leaving leaving' leaving_is few_leaving below))
+  pub rolled : (entering : ℕ) (window : List ℕ) → length window ≡ WINDOW → get_or window 0 0 ≡ leaving → value ≡ fingerprint p window
+      → append_byte p (kept entries value leaving') entering ≡ fingerprint p (drop 1 window ++ entering ∷ [])
+  rolled entering window size oldest value_is =
+      ap (λ t. append_byte p t entering) (ap₂ bit_xor value_is leaves_is ∙ kept_is p leaving window size oldest)
+      ∙ sym (fingerprint_push p (drop 1 window) entering)

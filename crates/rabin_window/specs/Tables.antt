@@ -5,7 +5,7 @@ use Rattle.std.specs.List.{fold}
 use Rattle.sd_base.specs.Polynomial.{degree}
 use Rattle.sd_base.specs.declared.limits.TheConstants.{WINDOW}
 use Rattle.rabin_window.specs.Division.{append_byte}
-use Rattle.rabin_window.specs.declared.tables.TheConstants.{BYTE_VALUES}
+use Rattle.rabin_window.specs.declared.byte_table.TheConstants.{BYTE_VALUES}
 
 -- tables, as contracts see them: by the polynomial that they were made for
 pub record TablesView : Type 0 where
@@ -20,10 +20,13 @@ leaving_entry p b = fold (append_byte p) (append_byte p 0 b) (replicate (WINDOW 
 unfoldable pub appending_entry : ℕ → ℕ → ℕ
 appending_entry p b = append_byte p (b * 2 ^ (degree p - 8)) 0
 
--- the tables of a polynomial, with the number of the remainder's bits that are not its highest
--- eight, and their mask
-pub record AreTables (p shift low_mask : ℕ) (leaving_entries appending_entries : List ℕ) : Type 0 where
+-- the table by which bytes are appended, with the number of the remainder's bits that are not its
+-- highest eight, and their mask
+pub record IsAppendingTable (p shift low_mask : ℕ) (entries : List ℕ) : Type 0 where
   pub highest_byte : shift + 8 ≡ degree p
   pub masked : low_mask ≡ 2 ^ shift - 1
-  pub leaves : (b : ℕ) → b < BYTE_VALUES → slice_index leaving_entries b ≡ leaving_entry p b
-  pub appends : (b : ℕ) → b < BYTE_VALUES → slice_index appending_entries b ≡ appending_entry p b
+  pub appends : (b : ℕ) → b < BYTE_VALUES → slice_index entries b ≡ appending_entry p b
+
+-- the table by which a byte leaves a window
+pub record IsLeavingTable (p : ℕ) (entries : List ℕ) : Type 0 where
+  pub leaves : (b : ℕ) → b < BYTE_VALUES → slice_index entries b ≡ leaving_entry p b

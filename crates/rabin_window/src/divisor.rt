@@ -1,6 +1,6 @@
 ghost use Rattle.std.specs.Prelude.{◌≡◌, ◌^◌, ◌<◌, ℕ};
 ghost use Rattle.sd_base.specs.Parameters.{IsPolynomial};
-ghost use Rattle.sd_base.specs.Polynomial.{degree, append_bit, fingerprint};
+ghost use Rattle.sd_base.specs.Polynomial.{degree, append_bit};
 ghost use Rattle.rabin_window.specs.Division.{append_byte};
 
 use sd_base::Params;
@@ -52,18 +52,6 @@ impl Divisor {
         let mut divided = remainder;
         for i in 0..8u32 {
             divided = self.append_bit(divided, u64::from((byte >> (7 - i)) % 2));
-        }
-        divided
-    }
-
-    /// The remainder of bytes: Rabin's fingerprint of them.
-    pub fn remainder(self, bytes: &[u8]) -> u64
-        ensures divided { result ≡ fingerprint self.polynomial bytes.now }
-        ensures reduced { result < 2 ^ degree self.polynomial }
-    {
-        let mut divided = 0;
-        for byte in bytes {
-            divided = self.append_byte(divided, *byte);
         }
         divided
     }

@@ -2,7 +2,7 @@ use Rattle.std.proofs.Common.{◌<◌, length, arith, ◌∙◌}
 use Rattle.rabin_window.specs.Tables.{appending_entry}
 use Rattle.rabin_window.proofs.Entries.{entry_more}
 use Rattle.rabin_window.proofs.Roll.{shifted_below, shifted_entry}
-use Rattle.rabin_window.proofs.tables.appending_table.Goals as goal
+use Rattle.rabin_window.proofs.appender.appending_table.Goals as goal
 
 pub append_byte-requires : goal.append_byte-requires
 append_byte-requires c =

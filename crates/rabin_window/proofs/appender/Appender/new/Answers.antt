@@ -2,7 +2,7 @@ use Rattle.std.proofs.Common.{◌-◌, ◌≤◌, arith, ap}
 use Rattle.std.proofs.lemmas.Nat.{one_shl}
 use Rattle.sd_base.specs.Polynomial.{degree}
 use Rattle.rabin_window.proofs.Degree.{degree_at_least, degree_place}
-use Rattle.rabin_window.proofs.tables.Tables.new.Goals as goal
+use Rattle.rabin_window.proofs.appender.Appender.new.Goals as goal
 
 pub overflow_sub-shift : goal.overflow_sub-shift
 overflow_sub-shift c =
@@ -21,8 +21,10 @@ invariant_of-result c =
     let enough : 16 ≤ degree divisor.polynomial = degree_at_least divisor.polynomial divisor.valid.0 divisor.valid.1 in
     let place = degree_place divisor.polynomial (omega arith) divisor.valid.1 in
     record {
-      highest_byte = omega (arith, divisor.degree_is);
-      masked = ap (λ x. x - 1) (one_shl (divisor.highest - 8) 64 (omega (arith, divisor.degree_is)));
-      leaves = c.leaving_table.ensures.entries;
-      appends = c.appending_table.ensures.entries;
+      valid = divisor.valid;
+      tabled = record {
+        highest_byte = omega (arith, divisor.degree_is);
+        masked = ap (λ x. x - 1) (one_shl (divisor.highest - 8) 64 (omega (arith, divisor.degree_is)));
+        appends = c.appending_table.ensures.entries;
+      };
     }
