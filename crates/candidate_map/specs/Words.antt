@@ -1,6 +1,6 @@
 -- A set of positions in words of 64 bits: position p is bit p % 64 of word p / 64. This layout is
 -- this project's own.
-use Rattle.std.specs.Prelude.{◌≡◌, ℕ, ◌+◌, ◌*◌, ◌/◌, ◌%◌, ◌^◌, ◌<◌, ◌≤◌, ◌==◌, Bool, false, List, length, map, slice_index}
+use Rattle.std.specs.Prelude.{◌≡◌, ℕ, ◌+◌, ◌*◌, ◌/◌, ◌%◌, ◌^◌, ◌<◌, ◌≤◌, ◌==◌, ◌&&◌, Bool, false, List, length, map, slice_index}
 use Rattle.std.specs.Int.{bit_at}
 use Rattle.std.specs.List.{range_with_len}
 use Rattle.candidate_map.specs.declared.plain_map.TheConstants.{WORD_BITS}
@@ -8,6 +8,10 @@ use Rattle.candidate_map.specs.declared.plain_map.TheConstants.{WORD_BITS}
 -- whether the bit of position p is set
 abbrev pub is_set : List ℕ → ℕ → Bool
 is_set words p = bit_at (slice_index words (p / WORD_BITS)) (p % WORD_BITS) == 1
+
+-- whether a position is that of a set bit of the mask, if the mask is put at this word
+abbrev pub is_in_word : ℕ → ℕ → ℕ → Bool
+is_in_word word mask p = p / WORD_BITS == word && bit_at mask (p % WORD_BITS) == 1
 
 -- the positions below a number of bits, each with its bit
 unfoldable pub positions_of : List ℕ → ℕ → List Bool

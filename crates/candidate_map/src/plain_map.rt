@@ -1,7 +1,7 @@
-ghost use Rattle.std.specs.Prelude.{◌≡◌, ℕ, ◌*◌, ◌<◌, ◌≤◌, ◌↔◌, true, false, length, replicate, slice_set, IfOk, IfSome, IfNone, IsNone};
+ghost use Rattle.std.specs.Prelude.{◌≡◌, ℕ, ◌*◌, ◌<◌, ◌≤◌, ◌+◌, ◌↔◌, ◌||◌, true, false, length, replicate, slice_set, IfOk, IfSome, IfNone, IsNone};
 ghost use Rattle.std.specs.Int.{bit_at};
 ghost use Rattle.candidate_map.specs.Positions.{has, Has, IsFirstFrom, NoneFrom};
-ghost use Rattle.candidate_map.specs.Words.{positions_of, HoldsBits, IsLowestFrom};
+ghost use Rattle.candidate_map.specs.Words.{positions_of, is_in_word, HoldsBits, IsLowestFrom};
 
 use sd_base::OutOfMemory;
 use std::alloc::Global;
@@ -60,6 +60,32 @@ impl PlainMap {
         ensures added { self.new ≡ slice_set self.old p true }
     {
         self.words[(p / WORD_BITS) as usize] |= 1 << (p % WORD_BITS);
+    }
+
+    /// Adds the position `64 * word + b` for each bit b of the mask, and changes nothing else of the
+    /// set. It takes no memory.
+    pub fn or_word(&mut self, word: u32, mask: u64)
+        requires word_inside { WORD_BITS * word < length self.old }
+        requires bits_inside { (b : ℕ) → bit_at mask b ≡ 1 → WORD_BITS * word + b < length self.old }
+        ensures bits { length self.new ≡ length self.old }
+        ensures added { (p : ℕ) → has self.new p ≡ (has self.old p || is_in_word word mask p) }
+    {
+        self.words[word as usize] |= mask;
+    }
+
+    /// Adds each position of another set with as many bits. It goes word by word, passes over empty
+    /// words, and takes no memory.
+    pub fn or_map(&mut self, other: &PlainMap)
+        requires same_bits { length other.now ≡ length self.old }
+        ensures bits { length self.new ≡ length self.old }
+        ensures added { (p : ℕ) → has self.new p ≡ (has self.old p || has other.now p) }
+    {
+        for index in 0..other.words.len() {
+            let mask = other.words[index];
+            if mask != 0 {
+                self.or_word(index as u32, mask);
+            }
+        }
     }
 
     /// The least position of the set that is at or above `p`, which may be any number. It goes word

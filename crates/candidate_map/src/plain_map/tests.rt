@@ -85,3 +85,46 @@ fn a_map_of_no_bits_has_no_position(rt: HostRuntime) -> Result<(), Fail> {
     assert_eq!(rt; map.next_from(0), None);
     Ok(())
 }
+
+#[test]
+fn a_word_adds_its_bits_to_those_of_the_map(rt: HostRuntime) -> Result<(), Fail> {
+    let mut map = PlainMap::new(rt.alloc(), 301)?;
+    assert!(rt; 100 < map.bits());
+    map.set(100);
+    map.or_word(1, 1 | 1 << 63);
+    map.or_word(4, 1 << 44);
+    for (from, next) in [
+        (0, Some(64)),
+        (65, Some(100)),
+        (101, Some(127)),
+        (128, Some(300)),
+    ] {
+        assert_eq!(rt; map.next_from(from), next, "from {from}");
+    }
+    Ok(())
+}
+
+#[test]
+fn a_map_adds_its_positions_to_those_of_another(rt: HostRuntime) -> Result<(), Fail> {
+    let mut map = PlainMap::new(rt.alloc(), 301)?;
+    let mut other = PlainMap::new(rt.alloc(), 301)?;
+    assert!(rt; map.bits() == 301 && other.bits() == 301);
+    map.set(1);
+    map.set(100);
+    for p in [100, 101, 300] {
+        assert!(rt; p < 301 && other.bits() == 301);
+        other.set(p);
+    }
+    map.or_map(&other);
+    for (from, next) in [
+        (0, Some(1)),
+        (2, Some(100)),
+        (101, Some(101)),
+        (102, Some(300)),
+        (301, None),
+    ] {
+        assert_eq!(rt; map.next_from(from), next, "from {from}");
+    }
+    assert_eq!(rt; other.next_from(0), Some(100));
+    Ok(())
+}
