@@ -1,10 +1,10 @@
 -- Words that are put together by or, one word at a time and map by map.
-use Rattle.std.proofs.Common.{◌≡◌, ℕ, ◌+◌, ◌*◌, ◌/◌, ◌%◌, ◌<◌, ◌≤◌, max, Bool, true, false, ◌||◌, ◌&&◌, List, eqb, ltb, length, get_or, set, refl, sym, ap, ◌∙◌, inl, inr, arith, eq-eqb, ne_eqb}
+use Rattle.std.proofs.Common.{◌≡◌, ℕ, ◌+◌, ◌*◌, ◌/◌, ◌%◌, ◌^◌, ◌<◌, ◌≤◌, max, Bool, true, false, ◌||◌, ◌&&◌, List, eqb, ltb, length, get_or, set, refl, sym, ap, ◌∙◌, inl, inr, arith, eq-eqb, ne_eqb}
 use Rattle.std.specs.Prelude.{bit_or}
 use Rattle.std.specs.Int.{bit_at}
 use Rattle.std.proofs.lemmas.Bool.{cases_lt, cases_eq, lt-ltb, le-ltb, false≢true}
 use Rattle.std.proofs.lemmas.List.{get_or-set_same, get_or-set_other, length-set}
-use Rattle.std.proofs.lemmas.Nat.Bits.{bit_at_or, bit_at-lt, bit_at-zero}
+use Rattle.std.proofs.lemmas.Nat.Bits.{bit_at_or, bit_at-lt, bit_at-zero, bit_at_above}
 use Rattle.candidate_map.specs.Positions.{has}
 use Rattle.candidate_map.specs.Words.{is_set, is_in_word, positions_of, HoldsBits}
 use Rattle.candidate_map.proofs.WordLemmas.{has-positions_of}
@@ -73,6 +73,14 @@ module _ (words : List ℕ) (word mask : ℕ) (within : word < length words) whe
         ∙ ap (λ b. b || is_in_word word mask p) (sym (has-positions_of words bits p ok))
 
 -- ---- a map put into another, word by word
+
+-- a set bit of a word is one of its 64
+pub bit_below : (word b : ℕ) → word < 2 ^ 64 → bit_at word b ≡ 1 → b < 64
+bit_below word b fits set =
+    elim (cases_lt b 64) [
+      | inl small ↦ small
+      | inr large ↦ absurd (omega (arith, bit_at_above word 64 b fits large, set))
+    ]
 
 -- a bit of a word of a map is one of its positions
 pub bit_inside : (words : List ℕ) (bits index b : ℕ) → HoldsBits words bits → bit_at (get_or words index 0) b ≡ 1

@@ -87,17 +87,19 @@ fn a_map_of_no_bits_has_no_position(rt: HostRuntime) -> Result<(), Fail> {
 }
 
 #[test]
+#[tactic(auto, using(crate::proofs::OrLemmas::bit_below))]
 fn a_word_adds_its_bits_to_those_of_the_map(rt: HostRuntime) -> Result<(), Fail> {
     let mut map = PlainMap::new(rt.alloc(), 301)?;
     assert!(rt; 100 < map.bits());
     map.set(100);
-    map.or_word(1, 1 | 1 << 63);
-    map.or_word(4, 1 << 44);
+    map.or_word(1, 0x8000_0000_0000_0001);
+    map.or_word(3, 2);
     for (from, next) in [
         (0, Some(64)),
         (65, Some(100)),
         (101, Some(127)),
-        (128, Some(300)),
+        (128, Some(193)),
+        (194, None),
     ] {
         assert_eq!(rt; map.next_from(from), next, "from {from}");
     }
@@ -115,6 +117,7 @@ fn a_map_adds_its_positions_to_those_of_another(rt: HostRuntime) -> Result<(), F
         assert!(rt; p < 301 && other.bits() == 301);
         other.set(p);
     }
+    assert!(rt; map.bits() == other.bits());
     map.or_map(&other);
     for (from, next) in [
         (0, Some(1)),

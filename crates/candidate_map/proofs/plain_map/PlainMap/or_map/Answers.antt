@@ -1,12 +1,10 @@
-use Rattle.std.proofs.Common.{◌<◌, ◌||◌, length, sym, ap, ◌∙◌, inl, inr, arith}
+use Rattle.std.proofs.Common.{◌<◌, ◌||◌, length, sym, ap, ◌∙◌, arith}
 use Rattle.std.specs.Int.{bit_at}
-use Rattle.std.proofs.lemmas.Bool.{cases_lt}
 use Rattle.std.proofs.lemmas.List.{get_or_read}
-use Rattle.std.proofs.lemmas.Nat.Bits.{bit_at_above}
 use Rattle.candidate_map.specs.Positions.{has}
 use Rattle.candidate_map.specs.Words.{is_in_word}
 use Rattle.candidate_map.proofs.WordLemmas.{length_seen}
-use Rattle.candidate_map.proofs.OrLemmas.{bit_inside, has_before, has_before-more, has_before-zero, has_before-all, or_assoc}
+use Rattle.candidate_map.proofs.OrLemmas.{bit_below, bit_inside, has_before, has_before-more, has_before-zero, has_before-all, or_assoc}
 use Rattle.candidate_map.proofs.plain_map.PlainMap.or_map.Goals as goal
 use Rattle.candidate_map.proofs.plain_map.PlainMap.or_map.Goals.{then-mask-ne0, else-mask-ne0}
 
@@ -23,10 +21,7 @@ or_word-requires-clause-bits_inside c b set =
     let len = length_seen other.words.items other.bits c.args.other.now c.other.view_is in
     let within : index < length other.words.items = omega (arith, other.words.ok.0) in
     let read = get_or_read other.words.items index c.index-mask.result.now within c.index-mask.ensures 0 in
-    let small : b < 64 = elim (cases_lt b 64) [
-      | inl small ↦ small
-      | inr large ↦ absurd (omega (arith, bit_at_above c.index-mask.result.now 64 b c.type_inv.mask.fits large, set))
-    ] in
+    let small = bit_below c.index-mask.result.now b c.type_inv.mask.fits set in
     let inside = bit_inside other.words.items other.bits index b c.other.invariant (ap (λ w. bit_at w b) (sym read) ∙ set) small in
     omega (arith, inside, c.requires.same_bits, c.loop-index.invariant.bits)
 
