@@ -49,57 +49,42 @@ fn scan_text(tables: &Tables, params: &Params, text: &[u8], from: u32, to: u32, 
         return;
     }
     let first = (from + 1).max(WINDOW);
-    // If the number of positions after the first is odd, the halves leave out the last one. It is
-    // scanned in either case, since scanning a position twice adds nothing more.
-    let even_end = to - (to - first) % 2;
-    scan_one(tables, params, text, first, map);
-    scan_side_by_side(tables, params, text, first, even_end, map);
-    scan_one(tables, params, text, to, map);
+    scan_side_by_side(tables, params, text, first, to, map);
 }
 
-// Adds the candidates above position `low` and up to and including position `end`, which is an even
-// number of positions further. The two halves are scanned side by side, so that their rolls
-// overlap: a roll waits only for the roll before it in its own half.
+// Adds the candidates from position `first` up to and including position `to`. The two halves are
+// scanned side by side, so that their rolls overlap: a roll waits only for the roll before it in
+// its own half. If the number of positions is odd, the halves meet between two positions; otherwise
+// they overlap. Scanning a position twice adds nothing more.
 fn scan_side_by_side(
     tables: &Tables,
     params: &Params,
     text: &[u8],
-    low: u32,
-    end: u32,
+    first: u32,
+    to: u32,
     map: &mut PlainMap,
 )
     requires same_polynomial { tables.now.polynomial ≡ params.now.polynomial }
-    requires whole_window { WINDOW ≤ low }
-    requires ordered { low ≤ end }
-    requires even { (end - low) % 2 ≡ 0 }
-    requires inside { end ≤ length text.now }
+    requires whole_window { WINDOW ≤ first }
+    requires ordered { first ≤ to }
+    requires inside { to ≤ length text.now }
     requires mapped { length map.old ≡ length text.now + 1 }
-    ensures { AddsCandidates (numbers_of params.now) text.now low end map.old map.new }
+    ensures { AddsCandidates (numbers_of params.now) text.now (first - 1) to map.old map.new }
 {
     let low_bits = LowBits::new(params);
-    let half = (end - low) / 2;
-    let middle = low + half;
-    let mut left = tables.fingerprint(&text[low as usize - WINDOW_SIZE..low as usize]);
+    let half = (to - first) / 2;
+    let middle = to - half;
+    let mut left = tables.fingerprint(&text[first as usize - WINDOW_SIZE..first as usize]);
     let mut right = tables.fingerprint(&text[middle as usize - WINDOW_SIZE..middle as usize]);
-    for p in low..middle {
-        let q = p + half;
+    mark(map, low_bits, left, first);
+    mark(map, low_bits, right, middle);
+    for p in first..first + half {
+        let q = p + (middle - first);
         left = tables.roll(left, text[p as usize - WINDOW_SIZE], text[p as usize]);
         right = tables.roll(right, text[q as usize - WINDOW_SIZE], text[q as usize]);
         mark(map, low_bits, left, p + 1);
         mark(map, low_bits, right, q + 1);
     }
-}
-
-// Adds a position if it is a candidate. Its window is read whole.
-fn scan_one(tables: &Tables, params: &Params, text: &[u8], p: u32, map: &mut PlainMap)
-    requires same_polynomial { tables.now.polynomial ≡ params.now.polynomial }
-    requires whole_window { WINDOW ≤ p }
-    requires inside { p ≤ length text.now }
-    requires mapped { length map.old ≡ length text.now + 1 }
-    ensures { AddsCandidates (numbers_of params.now) text.now (p - 1) p map.old map.new }
-{
-    let value = tables.fingerprint(&text[p as usize - WINDOW_SIZE..p as usize]);
-    mark(map, LowBits::new(params), value, p);
 }
 
 // Adds a position if the fingerprint of its window is a match.

@@ -9,24 +9,48 @@ use Rattle.segment_scan.proofs.Windows.{fingerprint_rolled}
 use Rattle.segment_scan.proofs.scan.scan_side_by_side.Goals as goal
 
 pub loop-p-init : goal.loop-p-init
-loop-p-init c = record {
-  left = c.fingerprint-left.ensures.fingerprint;
-  left_reduced = c.fingerprint-left.ensures.reduced;
-  right = c.fingerprint-right.ensures.fingerprint;
-  right_reduced = c.fingerprint-right.ensures.reduced;
-  added = adds_neither (numbers_of c.args.params.now) c.args.text.now c.args.low (c.args.low + (c.args.end - c.args.low) / 2) c.args.map.now;
-}
+loop-p-init c =
+    let params = numbers_of c.args.params.now in
+    let text = c.args.text.now in
+    let polynomial = c.args.tables.now.polynomial in
+    let first = c.args.first in
+    let middle = c.args.to - (c.args.to - first) / 2 in
+    let at = first + (middle - first) in
+    let bits = c.new-low_bits.result.bits in
+    let target = c.new-low_bits.result.target in
+    let left = c.fingerprint-left.result in
+    let right = c.fingerprint-right.result in
+    let right_hit = eqb (right % 2 ^ bits) target in
+    let is_at : middle ≡ at = omega arith in
+    let right_is : right ≡ fingerprint polynomial (slice_range text (at - WINDOW) at) =
+    c.fingerprint-right.ensures.fingerprint ∙ ap (λ n. fingerprint polynomial (slice_range text (n - WINDOW) n)) is_at in
+    record {
+      left = c.fingerprint-left.ensures.fingerprint;
+      left_reduced = c.fingerprint-left.ensures.reduced;
+      right = right_is;
+      right_reduced = c.fingerprint-right.ensures.reduced;
+      added = adds_more_of_both params text (first - 1) (first - 1) first (middle - 1) (middle - 1) at
+          c.args.map.now c.args.map.now c.mark.new.map c.mark-2.new.map (eqb (left % 2 ^ bits) target) right_hit
+          (omega arith) (omega arith)
+          (hit_is params text first polynomial left bits target (omega arith) (omega arith) c.requires.same_polynomial c.new-low_bits.ensures.bits c.new-low_bits.ensures.target c.fingerprint-left.ensures.fingerprint)
+          (omega arith) (omega arith)
+          (hit_is params text at polynomial right bits target (omega arith) (omega arith) c.requires.same_polynomial c.new-low_bits.ensures.bits c.new-low_bits.ensures.target right_is)
+          c.mark.ensures.bits c.mark.ensures.added
+          c.mark-2.ensures.bits
+          (λ q. c.mark-2.ensures.added q ∙ ap (λ n. has c.mark.new.map q || (eqb q n && right_hit)) is_at)
+          (adds_neither params text (first - 1) (middle - 1) c.args.map.now);
+    }
 
 pub loop-p-preserved : goal.loop-p-preserved
 loop-p-preserved c =
     let params = numbers_of c.args.params.now in
     let text = c.args.text.now in
     let polynomial = c.args.tables.now.polynomial in
-    let half = (c.args.end - c.args.low) / 2 in
-    let middle = c.args.low + half in
+    let first = c.args.first in
+    let middle = c.args.to - (c.args.to - first) / 2 in
     let p = c.loop-p.p in
-    let q = p + half in
-    let next = p + 1 + half in
+    let q = p + (middle - first) in
+    let next = p + 1 + (middle - first) in
     let bits = c.new-low_bits.result.bits in
     let target = c.new-low_bits.result.target in
     let left = c.roll-left.result in
@@ -44,23 +68,25 @@ loop-p-preserved c =
       left_reduced = c.roll-left.ensures.reduced;
       right = right_rolled;
       right_reduced = c.roll-right.ensures.reduced;
-      added = adds_more_of_both params text c.args.low p (p + 1) middle q next c.args.map.now c.loop-p.map c.mark.new.map c.mark-in-loop-p.new.map left_hit right_hit
+      added = adds_more_of_both params text (first - 1) p (p + 1) (middle - 1) q next
+          c.args.map.now c.loop-p.map c.mark-in-loop-p.new.map c.mark-in-loop-p-2.new.map left_hit right_hit
           refl (omega arith)
           (hit_is params text (p + 1) polynomial left bits target (omega arith) (omega arith) c.requires.same_polynomial c.new-low_bits.ensures.bits c.new-low_bits.ensures.target left_rolled)
           is_next (omega arith)
           (hit_is params text next polynomial right bits target (omega arith) (omega arith) c.requires.same_polynomial c.new-low_bits.ensures.bits c.new-low_bits.ensures.target right_rolled)
-          c.mark.ensures.bits c.mark.ensures.added
-          c.mark-in-loop-p.ensures.bits
-          (λ at. c.mark-in-loop-p.ensures.added at ∙ ap (λ n. has c.mark.new.map at || (eqb at n && right_hit)) also_next)
+          c.mark-in-loop-p.ensures.bits c.mark-in-loop-p.ensures.added
+          c.mark-in-loop-p-2.ensures.bits
+          (λ at. c.mark-in-loop-p-2.ensures.added at ∙ ap (λ n. has c.mark-in-loop-p.new.map at || (eqb at n && right_hit)) also_next)
           c.loop-p.invariant.added;
     }
 
 pub returns : goal.returns
 returns c =
-    let half = (c.args.end - c.args.low) / 2 in
-    let middle = c.args.low + half in
+    let first = c.args.first in
+    let half = (c.args.to - first) / 2 in
+    let middle = c.args.to - half in
     let p = c.loop-p.p in
-    let upto : p ≤ middle = c.loop-p.auto.p-end (omega arith) in
-    let at_end : p + half ≡ c.args.end = omega arith in
-    adds_halves (numbers_of c.args.params.now) c.args.text.now c.args.low p middle (p + half) c.args.end c.args.map.now c.loop-p.map
-    (omega arith) c.loop-p-test.false (omega arith) at_end c.loop-p.invariant.added
+    let upto : p ≤ first + half = c.loop-p.auto.p-end (omega arith) in
+    let at_end : p + (middle - first) ≡ c.args.to = omega arith in
+    adds_halves (numbers_of c.args.params.now) c.args.text.now (first - 1) p (middle - 1) (p + (middle - first)) c.args.to c.args.map.now c.loop-p.map
+    (omega arith) (omega arith) (omega arith) at_end c.loop-p.invariant.added

@@ -12,7 +12,7 @@ abbrev pub invariant-loop-p : goal.invariant-loop-p
 invariant-loop-p l = record {
   left : l.left ≡ fingerprint l.tables.polynomial (slice_range l.text (l.p - WINDOW) l.p);
   left_reduced : l.left < 2 ^ degree l.tables.polynomial;
-  right : l.right ≡ fingerprint l.tables.polynomial (slice_range l.text (l.p + l.half - WINDOW) (l.p + l.half));
+  right : l.right ≡ fingerprint l.tables.polynomial (slice_range l.text (l.p + (l.middle - l.first) - WINDOW) (l.p + (l.middle - l.first)));
   right_reduced : l.right < 2 ^ degree l.tables.polynomial;
-  added : AddsBoth (numbers_of l.params) l.text l.low l.p l.middle (l.p + l.half) l.fn.map l.map;
+  added : AddsBoth (numbers_of l.params) l.text (l.first - 1) l.p (l.middle - 1) (l.p + (l.middle - l.first)) l.fn.map l.map;
 }

@@ -1,4 +1,4 @@
-use Rattle.std.proofs.Common.{◌-◌, ◌%◌, ◌≤◌, ◌<◌, ◌⊎◌, inl, inr, arith}
+use Rattle.std.proofs.Common.{◌-◌, ◌≤◌, ◌<◌, ◌⊎◌, inl, inr, arith}
 use Rattle.std.proofs.lemmas.Bool.{cases_lt}
 use Rattle.sd_base.specs.Params.{numbers_of}
 use Rattle.sd_base.specs.declared.limits.TheConstants.{WINDOW}
@@ -16,14 +16,8 @@ returns c =
     let params = numbers_of c.args.params.now in
     let text = c.args.text.now in
     let from = c.args.from in
-    let to = c.args.to in
     let first = c.max-first.result in
-    let even_end = to - (to - first) % 2 in
     let start = c.args.map.now in
     let no_room : (first - 1 ≤ from) ⊎ (first - 1 < WINDOW) = elim (cases_lt from WINDOW) [ inl low ↦ inr (omega arith) | inr high ↦ inl (omega arith) ] in
-    let upto_first = adds_joined params text from (first - 1) (first - 1) first start start c.scan_one.new.map (omega arith) (omega arith) (omega arith)
-    (adds_none params text from (first - 1) start no_room) c.scan_one.ensures in
-    let upto_even = adds_joined params text from first first even_end start c.scan_one.new.map c.scan_side_by_side.new.map (omega arith) (omega arith) (omega arith)
-    upto_first c.scan_side_by_side.ensures in
-    adds_joined params text from (to - 1) even_end to start c.scan_side_by_side.new.map c.scan_one-2.new.map (omega arith) (omega arith) (omega arith)
-    upto_even c.scan_one-2.ensures
+    adds_joined params text from (first - 1) (first - 1) c.args.to start start c.scan_side_by_side.new.map (omega arith) (omega arith) (omega arith)
+    (adds_none params text from (first - 1) start no_room) c.scan_side_by_side.ensures
