@@ -1,0 +1,75 @@
+use super::name_all;
+use crate::{LengthNamer, Namer, Sha256Namer};
+use sd_base::{Gate, OpenGate, Stage};
+use std::sync::atomic::{AtomicU64, Ordering};
+use std::test::Fail;
+
+const TEXT: &[u8] = b"abcde";
+
+/// A gate that notes the pieces of batch 7 that begin to be named, one bit a piece, and counts its
+/// calls.
+#[derive(Drop)]
+struct Noting {
+    pieces: AtomicU64,
+    calls: AtomicU64,
+}
+
+impl Gate for Noting {
+    fn at(&self, stage: Stage, batch: u32, piece: u32) {
+        self.calls.fetch_add(1, Ordering::SeqCst);
+        if stage == Stage::Name && batch == 7 && piece < 64 {
+            self.pieces.fetch_or(1 << piece, Ordering::SeqCst);
+        }
+    }
+}
+
+#[test]
+fn names_are_the_same_for_each_number_of_workers(rt: HostRuntime) -> Result<(), Fail> {
+    let want = [
+        Sha256Namer.name(b"b"),
+        Sha256Namer.name(b"cd"),
+        Sha256Namer.name(b"e"),
+    ];
+    for workers in [1, 2, 3, 64] {
+        let names = name_all(
+            &rt,
+            rt.alloc(),
+            &Sha256Namer,
+            TEXT,
+            1,
+            &[2, 4, 5],
+            workers,
+            0,
+            &OpenGate,
+        )?;
+        assert_eq!(rt; names.as_slice(), want.as_slice());
+    }
+    Ok(())
+}
+
+#[test]
+fn each_worker_calls_the_gate_once(rt: HostRuntime) -> Result<(), Fail> {
+    for ends in [[].as_slice(), [1].as_slice(), [1, 2, 3, 4, 5].as_slice()] {
+        for (workers, pieces) in [(1, 1), (2, 3), (4, 15), (64, u64::MAX)] {
+            let gate = Noting {
+                pieces: AtomicU64::new(0),
+                calls: AtomicU64::new(0),
+            };
+            let names = name_all(
+                &rt,
+                rt.alloc(),
+                &LengthNamer,
+                TEXT,
+                0,
+                ends,
+                workers,
+                7,
+                &gate,
+            )?;
+            assert_eq!(rt; names.len(), ends.len());
+            assert_eq!(rt; gate.pieces.load(Ordering::SeqCst), pieces);
+            assert_eq!(rt; gate.calls.load(Ordering::SeqCst), u64::from(workers));
+        }
+    }
+    Ok(())
+}
