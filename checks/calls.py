@@ -1,103 +1,15 @@
 """Which calls of the system a run makes on the files of a store, and in which order.
 
-The calls are seen by strace. If it cannot be used, the tests say so and try nothing.
+The calls are seen by strace. If it cannot be used, the tests are not tried.
 """
 
-import os
-import re
-import subprocess
-from itertools import count
 from random import Random
-from typing import NamedTuple
 
-from folders import COMMANDS, FOLDER, LISTED, TEXT, expect_committed, with_ingest
-from harness import PROGRAM, Mismatch, expect, expect_same, run, test
+from folders import COMMANDS, LONG, TEXT, with_ingest, with_tails
+from harness import Mismatch, expect_same
 from reference import SPARSE_ZERO, keys_of
-from reference_store import opened, twice, write_files
-
-KINDS = {
-    "write": "write",
-    "writev": "write",
-    "pwrite64": "write",
-    "pwritev": "write",
-    "ftruncate": "cut",
-    "truncate": "cut",
-    "fsync": "sync",
-    "fdatasync": "sync",
-    "read": "read",
-    "readv": "read",
-    "pread64": "read",
-    "preadv": "read",
-    "open": "open",
-    "openat": "open",
-    "rename": "rename",
-    "renameat": "rename",
-    "renameat2": "rename",
-    "unlink": "remove",
-    "unlinkat": "remove",
-}
-LINE = re.compile(r"(?:\d+ +)?(\w+)\((.*)\) += (\d+)(?:<(.*)>)?")
-CHANGES = {"make", "write", "cut", "sync", "rename", "remove"}
-
-
-class Call(NamedTuple):
-    kind: str
-    # The name of the file in the folder of the store, or "." for the folder.
-    file: str
-
-
-def calls_in(trace, folder, files):
-    """The calls on the folder of a store that has these files at first."""
-    calls, there = [], set(files)
-    for line in trace.splitlines():
-        if not (found := LINE.match(line)):
-            continue
-        name, words, _, opened_path = found.groups()
-        path = opened_path or words.partition("<")[2].partition(">")[0]
-        if os.path.dirname(path) != folder and path != folder:
-            continue
-        file = "." if path == folder else os.path.basename(path)
-        if "O_CREAT" in words and file not in there:
-            there.add(file)
-            calls.append(Call("make", file))
-        calls.append(Call(KINDS[name], file))
-    return calls
-
-
-def traced(words, text, trace):
-    """Runs the program under strace, and returns its status. The trace has paths of handles."""
-    calls = ",".join(KINDS)
-    strace = ["strace", "-f", "-y", "-s", "0", "-o", trace, "-e", f"trace={calls}"]
-    command = [*strace, PROGRAM, *words]
-    return subprocess.run(command, input=text, capture_output=True).returncode
-
-
-def can_trace():
-    try:
-        return traced([FOLDER, "plan"], b"", "trace") == 0
-    except FileNotFoundError:
-        return False
-
-
-def calls_of(words, text, files):
-    """The calls of a run over these files on the folder of the store, and its status."""
-    write_files(FOLDER, files)
-    status = traced([FOLDER, *words], text, "trace")
-    with open("trace") as trace:
-        return calls_in(trace.read(), os.path.realpath(FOLDER), files), status
-
-
-def traced_test(function):
-    """A test that is tried if strace can be used."""
-
-    def tried():
-        if can_trace():
-            function()
-        else:
-            print(f"{function.__name__}: not tried, since strace cannot be used here")
-
-    tried.__name__ = function.__name__
-    return test(tried)
+from reference_store import MAX_CHUNK, ingest, init, opened, twice
+from tracing import CHANGES, calls_of, traced_test
 
 
 def expect_synced_before(calls, commits):
@@ -118,6 +30,10 @@ def expect_synced_before(calls, commits):
     expect_same("what is not synced at the end", set(), changed)
 
 
+def of(calls, file):
+    return [it for it in calls if it.file == file]
+
+
 def indexes_of(calls, file, kinds):
     return [index for index, it in enumerate(calls) if it.file == file and it.kind in kinds]
 
@@ -136,6 +52,20 @@ def ingest_is_synced_before_its_seal_is_written():
         seals = indexes_of(calls, "seal.0", ("make", "write"))
         expect_same("the writes of the seal", 1, len(indexes_of(calls, "seal.0", ("write",))))
         expect_synced_before(calls, seals[:1])
+
+
+@traced_test
+def every_container_is_synced_before_the_seal_is_written():
+    files, draw = {}, Random(41)
+    init(files, LONG)
+    ingest(files, b"a", draw.randbytes(2 * MAX_CHUNK))
+    # One chunk more in container 0, three in container 1, and one in container 2.
+    calls, status = calls_of(["ingest", "n"], draw.randbytes(5 * MAX_CHUNK), files)
+    expect_same("the status", 0, status)
+    for number in range(3):
+        syncs = indexes_of(calls, f"container.0.{number}", ("sync",))
+        expect_same(f"the syncs of container {number}", 1, len(syncs))
+    expect_synced_before(calls, indexes_of(calls, "seal.0", ("make", "write"))[:1])
 
 
 @traced_test
@@ -166,6 +96,52 @@ def reading_and_refused_commands_change_no_file():
 
 
 @traced_test
+def commands_that_need_no_chunk_open_no_container():
+    files = with_ingest(twice(), b"e", b"")
+    rows = [
+        (["list"], b"", 0),
+        (["restore", "e"], b"", 0),
+        (["restore", "x"], b"", 6),
+        (["ingest", "n"], b"", 0),
+        (["ingest", "a"], TEXT, 5),
+        (["init"], b"", 4),
+    ]
+    for words, text, wanted in rows:
+        calls, status = calls_of(words, text, files)
+        expect_same(f"the status of {words}", wanted, status)
+        expect_same(f"the calls on the container by {words}", [], of(calls, "container.0.0"))
+    calls, status = calls_of(["plan"], TEXT, files)
+    expect_same("the calls of a plan, and its status", ([], 0), (calls, status))
+
+
+@traced_test
+def what_did_not_change_is_not_synced():
+    calls, _ = calls_of(["ingest", "n"], bytes(200), twice())
+    for name in ("head", "container.0.0"):
+        expect_same(f"the syncs of {name}", [], indexes_of(calls, name, ("sync",)))
+    for name in ("book.0", "seal.0", "."):
+        expect_same(f"the syncs of {name}", 1, len(indexes_of(calls, name, ("sync",))))
+
+
+@traced_test
+def file_is_cut_once_if_it_has_a_tail_and_never_otherwise():
+    tail = bytes(300)
+    rows = [
+        ({}, TEXT, {}),
+        ({"book.0": tail}, TEXT, {"book.0": 1}),
+        ({"container.0.0": tail}, TEXT, {"container.0.0": 1}),
+        ({"container.0.0": tail}, bytes(200), {}),
+        ({"book.0": tail, "container.0.0": tail}, TEXT, {"book.0": 1, "container.0.0": 1}),
+    ]
+    for tails, text, cuts in rows:
+        calls, status = calls_of(["ingest", "n"], text, with_tails(twice(), tails))
+        expect_same("the status", 0, status)
+        for name in twice():
+            came = len(indexes_of(calls, name, ("cut",)))
+            expect_same(f"the cuts of {name} with {[*tails]}", cuts.get(name, 0), came)
+
+
+@traced_test
 def chunks_cost_one_call_each():
     text = Random(4).randbytes(20_000)
     files = {"head": twice()["head"]}
@@ -185,86 +161,3 @@ def chunks_cost_one_call_each():
 def expect_at_most(what, most, came):
     if len(came) > most:
         raise Mismatch(f"{what}: wanted at most {most}, came {len(came)}")
-
-
-# Calls that fail, and runs that are killed at a call.
-
-WRITING = ["openat", "write", "ftruncate", "fdatasync", "fsync"]
-READING = ["openat", "read", "pread64"]
-
-
-def disturbed(words, call, how, files):
-    """Runs the program so that something happens at one of its calls on these files.
-
-    Returns its status and what it noted last, or None if there was no such call.
-    """
-    both = [f"{folder}/{it}" for it in files for folder in (FOLDER, os.path.realpath(FOLDER))]
-    paths = [word for it in both for word in ("-P", it)]
-    disturbing = ["-e", f"trace={call}", "-e", f"inject={call}:{how}"]
-    command = ["strace", "-f", "-y", "-o", "trace", *paths, *disturbing, PROGRAM, FOLDER, *words]
-    came = subprocess.run(command, input=TEXT, capture_output=True)
-    with open("trace") as trace:
-        happened = "INJECTED" in trace.read() or came.returncode < 0
-    return (came.returncode, came.stderr.splitlines()[-1:]) if happened else None
-
-
-def each_disturbance(words, calls, how, files):
-    """Disturbs runs over the store `twice`, each at another one of their calls of these kinds."""
-    for call in calls:
-        for number in count(1):
-            write_files(FOLDER, twice())
-            came = disturbed(words, call, f"{how}:when={number}", files)
-            if came is None:
-                break
-            yield f"{call} {number}", came
-
-
-def expect_before_or_after():
-    """Expects the sessions of before or those and the new one, and that the next is taken in."""
-    came = run([FOLDER, "list"])
-    if came.output != LISTED:
-        expect(came, output=LISTED + b"2 n 214 2\n")
-        expect(run([FOLDER, "restore", "n"]), output=TEXT)
-    expect(run([FOLDER, "restore", "b"]), output=bytes(200))
-    expect_same("next status", 0, run([FOLDER, "ingest", "m"], TEXT, changes=FOLDER).status)
-    expect(run([FOLDER, "restore", "m"]), output=TEXT)
-
-
-STORE_FAILED = (12, [b"backup: store failed"])
-
-
-@traced_test
-def each_call_of_an_ingest_that_fails_leaves_the_state_before_or_after():
-    failures = 0
-    for call, came in each_disturbance(["ingest", "n"], WRITING, "error=EIO", twice()):
-        expect_same(f"the end if {call} fails", STORE_FAILED, came)
-        expect_before_or_after()
-        failures += 1
-    if failures < 8:
-        raise Mismatch(f"wanted at least eight calls on the files, came {failures}")
-
-
-@traced_test
-def append_of_the_seal_that_fails_leaves_the_state_before():
-    write_files(FOLDER, twice())
-    came = disturbed(["ingest", "n"], "write", "error=ENOSPC", ["seal.0"])
-    expect_same("the end", STORE_FAILED, came)
-    expect_committed()
-
-
-@traced_test
-def each_call_that_reads_and_fails_is_said():
-    for words in (["list"], ["restore", "a"]):
-        for call, came in each_disturbance(words, READING, "error=EIO", twice()):
-            expect_same(f"the end of {words} if {call} fails", STORE_FAILED, came)
-
-
-@traced_test
-def run_that_is_killed_at_any_call_leaves_the_state_before_or_after():
-    kills = 0
-    for call, came in each_disturbance(["ingest", "n"], WRITING, "signal=SIGKILL", twice()):
-        expect_same(f"the status of the run killed at {call}", -9, came[0])
-        expect_before_or_after()
-        kills += 1
-    if kills < 8:
-        raise Mismatch(f"wanted at least eight calls on the files, came {kills}")

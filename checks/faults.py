@@ -19,6 +19,7 @@ from folders import (
     with_ingest,
 )
 from harness import (
+    NotTried,
     each_row,
     expect,
     expect_refusal,
@@ -29,7 +30,15 @@ from harness import (
 )
 from pipes import limiting_files, with_memory
 from reference import DEFAULTS
-from reference_store import OPEN_HEAD, files_in, ingest, init, twice, write_files
+from reference_store import (
+    OPEN_HEAD,
+    files_in,
+    ingest,
+    init,
+    list_sessions,
+    twice,
+    write_files,
+)
 
 NO_STORE, STORE = "no store", "store failed"
 
@@ -161,12 +170,17 @@ def under_permissions():
     return starter if is_held_back else None
 
 
-def expect_under_permissions(what, each):
-    starter = under_permissions()
-    if starter is None:
-        print(f"{what} were not tried: permissions do not hold root back, and setpriv does not")
-    else:
-        each(starter)
+def permissions_test(function):
+    """A test that is tried, with a starter, if permissions can hold the program back."""
+
+    def tried():
+        starter = under_permissions()
+        if starter is None:
+            raise NotTried("permissions do not hold root back, and setpriv does not")
+        function(starter)
+
+    tried.__name__ = function.__name__
+    return test(tried)
 
 
 # Which commands have failed if a file has this mode. Sizes alone need no permission on a file.
@@ -182,9 +196,9 @@ MODES = [
 ]
 
 
-@test
-def files_without_permission_have_failed():
-    def expect_row(starter, name, mode, failing):
+@permissions_test
+def files_without_permission_have_failed(starter):
+    def expect_row(name, mode, failing):
         for words in COMMANDS:
             write_files(FOLDER, twice())
             os.chmod(f"{FOLDER}/{name}", mode)
@@ -196,34 +210,60 @@ def files_without_permission_have_failed():
             else:
                 expect(came, output=OUTPUTS[words[0]])
 
-    def each(starter):
-        each_row(((starter, *row) for row in MODES), expect_row)
-
-    expect_under_permissions("files without permission", each)
+    each_row(MODES, expect_row)
 
 
-@test
-def folders_without_permission_have_failed():
-    def run_in(mode, words, starter):
-        os.chmod(FOLDER, mode)
-        try:
-            return run([FOLDER, *words], TEXT, starter=starter, changes=FOLDER)
-        finally:
-            os.chmod(FOLDER, 0o755)
+def run_in(mode, words, starter):
+    """Runs a command over a folder that has this mode until the end of the run."""
+    os.chmod(FOLDER, mode)
+    try:
+        return run([FOLDER, *words], TEXT, starter=starter, changes=FOLDER)
+    finally:
+        os.chmod(FOLDER, 0o755)
 
-    def each(starter):
-        write_files(FOLDER, twice())
-        for words in [*COMMANDS, INIT]:
-            expect_refusal(run_in(0, words, starter), STORE)
-        # Nothing can be made in a folder that cannot be written.
-        expect(run_in(0o500, ["list"], starter), output=LISTED)
-        expect(run_in(0o500, ["restore", "a"], starter), output=bytes(200))
-        expect_committed()
-        write_files(FOLDER, {})
-        expect_refusal(run_in(0o500, INIT, starter), STORE)
-        expect(run([FOLDER, *INIT], changes=FOLDER), output=b"ready\n")
 
-    expect_under_permissions("folders without permission", each)
+@permissions_test
+def folders_without_permission_have_failed(starter):
+    write_files(FOLDER, twice())
+    for words in [*COMMANDS, INIT]:
+        expect_refusal(run_in(0, words, starter), STORE)
+    # Nothing can be made in a folder that cannot be written.
+    expect(run_in(0o500, ["list"], starter), output=LISTED)
+    expect(run_in(0o500, ["restore", "a"], starter), output=bytes(200))
+    expect_committed()
+    write_files(FOLDER, {})
+    expect_refusal(run_in(0o500, INIT, starter), STORE)
+    expect(run([FOLDER, *INIT], changes=FOLDER), output=b"ready\n")
+
+
+def expect_before_the_next_ingest(files):
+    """Expects the sessions of these files and no other, and that the next is taken in."""
+    expect(run([FOLDER, "list"]), output=list_sessions(files))
+    came = run([FOLDER, "ingest", "n"], TEXT, changes=FOLDER)
+    expect_same("the status of the next ingest", 0, came.status)
+    expect_files(with_ingest(files), files_in(FOLDER))
+
+
+@permissions_test
+def ingest_that_cannot_make_a_file_leaves_the_store_as_it_was(starter):
+    """The folder cannot be written, and files that the ingest needs are not there."""
+
+    def expect_row(files):
+        write_files(FOLDER, files)
+        expect_refusal(run_in(0o500, ["ingest", "n"], starter), STORE)
+        expect_before_the_next_ingest(files)
+
+    empty = {"head": twice()["head"]}
+    each_row([(empty,), (with_ingest(empty, b"e", b""),)], expect_row)
+
+
+@permissions_test
+def ingest_that_cannot_sync_the_folder_leaves_the_store_as_it_was(starter):
+    """A folder that cannot be read can be written, and not be opened for its sync."""
+    for files in (twice(), {"head": twice()["head"]}):
+        write_files(FOLDER, files)
+        expect_refusal(run_in(0o300, ["ingest", "n"], starter), STORE)
+        expect_before_the_next_ingest(files)
 
 
 # Handles and sizes of files.

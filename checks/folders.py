@@ -1,12 +1,17 @@
 """Runs the program on a store in a folder, beside the second implementation on files in memory."""
 
+from dataclasses import replace
+
 import reference_store
 from harness import Mismatch, Run, expect, run, status_of
-from reference import SPARSE_ZERO, keys_of
-from reference_store import Refusal, files_in, ingest, twice, write_files
+from reference import DEFAULTS, SPARSE_ZERO, keys_of
+from reference_store import MAX_CHUNK, Refusal, files_in, ingest, twice, write_files
 
 # The folder of the store that a test makes for itself.
 FOLDER = "s"
+
+# Every chunk but the last of an input is as long as a chunk may be.
+LONG = replace(DEFAULTS, min=MAX_CHUNK, max=MAX_CHUNK)
 
 # What the commands print over the store `twice`, if `ingest` has this input. It has a chunk of the
 # store and a new one.
@@ -55,6 +60,11 @@ def with_ingest(files, name=b"n", text=TEXT):
     return later
 
 
+def with_tails(files, tails):
+    """The files with bytes after what was committed, as a killed run leaves them."""
+    return files | {name: files.get(name, b"") + tail for name, tail in tails.items()}
+
+
 def expect_committed():
     """Expects that the store has its two sessions and no other, and that the next is taken in."""
     expect(run([FOLDER, "list"]), output=LISTED)
@@ -93,3 +103,9 @@ class Twin:
         wanted = wanted_run(reference_store.restore, self.files, name.encode())
         self.expect(["restore", name], wanted)
         return wanted
+
+
+def new_twin(params):
+    twin = Twin()
+    twin.init(params)
+    return twin

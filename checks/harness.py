@@ -38,6 +38,10 @@ class Mismatch(Exception):
     pass
 
 
+class NotTried(Exception):
+    """A test that this machine cannot try, and why."""
+
+
 def add_test(name, function):
     if name in TESTS:
         raise ValueError(f"two tests are named {name}, and only one would run")
@@ -177,25 +181,32 @@ def fresh_room():
             os.chdir(before)
 
 
-def failure_of(function):
-    """Runs a test in a fresh room, and returns in one line how it failed, or None."""
+class Tally(NamedTuple):
+    passed: int = 0
+    failed: int = 0
+    not_tried: int = 0
+
+
+def end_of(function):
+    """Runs a test in a fresh room. Returns how it counts, and in one line why it did not pass."""
     try:
         with fresh_room():
             function()
+    except NotTried as reason:
+        return Tally(not_tried=1), f"not tried, since {reason}"
     except Mismatch as mismatch:
-        return str(mismatch)
+        return Tally(failed=1), str(mismatch)
     except Exception as error:
-        return f"{type(error).__name__}: {' '.join(str(error).split())}"
-    return None
+        return Tally(failed=1), f"{type(error).__name__}: {' '.join(str(error).split())}"
+    return Tally(passed=1), None
 
 
 def run_tests():
-    """Runs the tests, and returns how many passed and how many failed."""
-    passed, failed = 0, 0
+    """Runs the tests, and returns how many passed, failed and were not tried."""
+    tally = Tally()
     for name, function in TESTS.items():
-        if failure := failure_of(function):
-            failed += 1
-            print(f"{name}: {failure}", flush=True)
-        else:
-            passed += 1
-    return passed, failed
+        end, reason = end_of(function)
+        tally = Tally(*map(sum, zip(tally, end)))
+        if reason is not None:
+            print(f"{name}: {reason}", flush=True)
+    return tally

@@ -4,7 +4,7 @@ import struct
 import tempfile
 from pathlib import Path
 
-from folders import FOLDER, Twin, expect_files
+from folders import FOLDER, Twin, expect_committed, expect_files
 from harness import expect, expect_refusal, expect_same, file_of, position_of, run, test
 from reference import DEFAULTS, LONGEST_INPUT
 from reference_store import (
@@ -20,6 +20,7 @@ from reference_store import (
     sealed,
     settings_of,
     spelling_of,
+    twice,
     u32,
     write_files,
 )
@@ -47,17 +48,23 @@ def expect_untouched_by(words, source, note):
     expect_files(before, files_in(FOLDER))
 
 
+def zeros_through_a_pipe(length):
+    """A starter that gives the program so many zero bytes through a pipe."""
+    return ("sh", "-c", f'head -c {length} /dev/zero | "$@"', "sh")
+
+
 @test
 def longest_input_is_taken_in_and_a_longer_one_is_not():
     Twin().init(DEFAULTS)
+    before = files_in(FOLDER)
     with tempfile.TemporaryFile() as zeros:
         zeros.truncate(LONGEST_INPUT + 1)
         expect_refusal(run([FOLDER, "ingest", "z"], zeros, changes=FOLDER), "input too long")
         expect_same("bytes taken", LONGEST_INPUT + 1, position_of(zeros))
-        expect(run([FOLDER, "list"]))
-        zeros.truncate(LONGEST_INPUT)
-        zeros.seek(0)
-        came = run([FOLDER, "ingest", "z"], zeros, changes=FOLDER)
+    expect_files(before, files_in(FOLDER))
+    expect(run([FOLDER, "list"]))
+    starter = zeros_through_a_pipe(LONGEST_INPUT)
+    came = run([FOLDER, "ingest", "z"], starter=starter, changes=FOLDER)
     expect(came, output=ingest_line("z", LONGEST_INPUT, 4096, 1))
     expect_same("bytes of the container", 65_544, Path(FOLDER, "container.0.0").stat().st_size)
     with tempfile.TemporaryFile() as file:
@@ -67,6 +74,15 @@ def longest_input_is_taken_in_and_a_longer_one_is_not():
         while piece := file.read(2**20):
             expect_same("a piece of the session", zeros, piece)
         expect_same("bytes of the session", LONGEST_INPUT, file.tell())
+
+
+@test
+def input_that_never_ends_leaves_the_store_as_it_was():
+    twin = Twin(twice())
+    with open("/dev/zero", "rb") as endless:
+        expect_refusal(run([FOLDER, "ingest", "z"], endless, changes=FOLDER), "input too long")
+    expect_files(twin.files, files_in(FOLDER))
+    expect_committed()
 
 
 def empty_sessions(count):

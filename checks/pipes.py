@@ -4,7 +4,7 @@ import fcntl
 import os
 import resource
 import signal
-from contextlib import contextmanager
+from contextlib import contextmanager, suppress
 from threading import Thread
 
 from harness import Mismatch
@@ -27,6 +27,19 @@ def in_background(function):
     thread = Thread(target=function, daemon=True)
     thread.start()
     return thread
+
+
+def trickle(text):
+    """Opens a pipe from which each read takes one byte."""
+    reader, writer = os.pipe2(os.O_DIRECT | os.O_CLOEXEC)
+
+    def write():
+        with suppress(BrokenPipeError), open(writer, "wb", buffering=0) as sink:
+            for byte in text:
+                sink.write(bytes([byte]))
+
+    in_background(write)
+    return open(reader, "rb", buffering=0)
 
 
 def expect_part(wanted, written):

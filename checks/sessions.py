@@ -6,7 +6,7 @@ from pathlib import Path
 from random import Random
 
 import reference_store
-from folders import FOLDER, Twin, expect_files, refused
+from folders import FOLDER, LONG, Twin, expect_files, new_twin, refused, with_tails
 from harness import (
     Mismatch,
     Run,
@@ -35,8 +35,6 @@ from rooms import WORK
 
 # Chunks so short that a small input has many.
 SHORT = Params(polynomial=0x1A5C3F9D7, bits=6, target=9, min=48, max=300)
-# Every chunk but the last of an input is as long as a chunk may be.
-LONG = replace(DEFAULTS, min=MAX_CHUNK, max=MAX_CHUNK)
 
 
 @test
@@ -46,12 +44,6 @@ def second_implementation_has_the_known_values():
 
 def expect_prints(words, output, source=b""):
     expect(run([FOLDER, *words], source, changes=FOLDER), output=output)
-
-
-def new_twin(params):
-    twin = Twin()
-    twin.init(params)
-    return twin
 
 
 @test
@@ -239,10 +231,6 @@ TAILS = [
     {"container.0.1": b"what a killed run left"},
     {"book.0": bytes(300), "container.0.0": bytes(300), "container.0.1": bytes(300)},
 ]
-
-
-def with_tails(files, tails):
-    return files | {name: files.get(name, b"") + tail for name, tail in tails.items()}
 
 
 @test

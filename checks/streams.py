@@ -3,7 +3,6 @@
 import os
 import socket
 import tempfile
-from contextlib import suppress
 from time import sleep
 
 import reference
@@ -19,7 +18,7 @@ from harness import (
     run,
     test,
 )
-from pipes import expect_part, in_background, pipe, set_non_blocking, with_memory
+from pipes import expect_part, in_background, pipe, set_non_blocking, trickle, with_memory
 from reference import DEFAULTS, KNOWN_CUTS, LONGEST_INPUT, SPARSE_ZERO, keys_of
 
 PLAN = [STORE, "plan"]
@@ -34,19 +33,6 @@ def lines_of_zeros(length):
     """The text of a plan with many lines, one for every 64 bytes."""
     whole, rest = divmod(length, 64)
     return reference.lines_of(bytes(length), [64] * whole + [rest] * (rest > 0))
-
-
-def trickle(text):
-    """Opens a pipe from which each read takes one byte."""
-    reader, writer = os.pipe2(os.O_DIRECT | os.O_CLOEXEC)
-
-    def write():
-        with suppress(BrokenPipeError), open(writer, "wb", buffering=0) as sink:
-            for byte in text:
-                sink.write(bytes([byte]))
-
-    in_background(write)
-    return open(reader, "rb", buffering=0)
 
 
 @test
