@@ -1,152 +1,9 @@
+use crate::faulty_files::{Faulty, Plan};
 use crate::{EdgeFault, File, FolderShelf, Shelf};
-use std::alloc::Allocator;
-use std::fs::{Metadata, OpenFile, OpenOptions};
-use std::io::{ErrorKind, Read, Seek, SeekFrom, Write};
-use std::os::unix::fs::{FileExt, symlink};
-use std::rt::Files;
-use std::sync::atomic::AtomicU64;
+use std::fs;
+use std::os::unix::fs::symlink;
 use std::sync::atomic::Ordering::SeqCst;
 use std::test::Fail;
-use std::{fs, io};
-
-/// The syncs of files and folders: how many were made, and which one fails, counted from 1.
-#[derive(Drop)]
-struct Syncs {
-    made: AtomicU64,
-    failing: u64,
-}
-
-impl Syncs {
-    fn new(failing: u64) -> Self {
-        Syncs {
-            made: AtomicU64::new(0),
-            failing,
-        }
-    }
-
-    fn sync(&self) -> io::Result<()> {
-        if self.made.fetch_add(1, SeqCst).wrapping_add(1) == self.failing {
-            return Err(ErrorKind::Other.into());
-        }
-        Ok(())
-    }
-}
-
-/// The system's files, of which one sync fails. A write takes one byte of its piece, and fails at
-/// an exclamation mark.
-#[derive(Drop)]
-struct Faulty<'a> {
-    rt: HostRuntime,
-    syncs: &'a Syncs,
-}
-
-#[derive(Drop)]
-struct FaultyFile<'a> {
-    file: fs::File,
-    syncs: &'a Syncs,
-}
-
-impl Read for FaultyFile<'_> {
-    fn read(&mut self, into: &mut [u8]) -> io::Result<usize> {
-        self.file.read(into)
-    }
-}
-
-impl Write for FaultyFile<'_> {
-    fn write(&mut self, bytes: &[u8]) -> io::Result<usize> {
-        if bytes.starts_with(b"!") {
-            return Err(ErrorKind::Other.into());
-        }
-        self.file.write(&bytes[..bytes.len().min(1)])
-    }
-
-    fn flush(&mut self) -> io::Result<()> {
-        Ok(())
-    }
-}
-
-impl Seek for FaultyFile<'_> {
-    fn seek(&mut self, to: SeekFrom) -> io::Result<u64> {
-        self.file.seek(to)
-    }
-}
-
-impl FileExt for FaultyFile<'_> {
-    fn read_at(&self, into: &mut [u8], offset: u64) -> io::Result<usize> {
-        self.file.read_at(into, offset)
-    }
-
-    fn write_at(&self, bytes: &[u8], offset: u64) -> io::Result<usize> {
-        self.file.write_at(bytes, offset)
-    }
-}
-
-impl OpenFile for FaultyFile<'_> {
-    fn metadata(&self) -> io::Result<Metadata> {
-        self.file.metadata()
-    }
-
-    fn set_len(&self, size: u64) -> io::Result<()> {
-        self.file.set_len(size)
-    }
-
-    fn sync_all(&self) -> io::Result<()> {
-        self.syncs.sync()
-    }
-
-    fn sync_data(&self) -> io::Result<()> {
-        self.syncs.sync()
-    }
-}
-
-impl<'a> Files for Faulty<'a> {
-    type File = FaultyFile<'a>;
-
-    type Dir = <HostRuntime as Files>::Dir;
-
-    fn open_file(&self, how: &OpenOptions, path: &str) -> io::Result<FaultyFile<'a>> {
-        Ok(FaultyFile {
-            file: self.rt.open_file(how, path)?,
-            syncs: self.syncs,
-        })
-    }
-
-    fn open_dir(&self, path: &str) -> io::Result<Self::Dir> {
-        self.rt.open_dir(path)
-    }
-
-    fn metadata(&self, path: &str) -> io::Result<Metadata> {
-        self.rt.metadata(path)
-    }
-
-    fn symlink_metadata(&self, path: &str) -> io::Result<Metadata> {
-        self.rt.symlink_metadata(path)
-    }
-
-    fn copy(&self, from: &str, to: &str) -> io::Result<u64> {
-        self.rt.copy(from, to)
-    }
-
-    fn rename(&self, from: &str, to: &str) -> io::Result<()> {
-        self.rt.rename(from, to)
-    }
-
-    fn remove_file(&self, path: &str) -> io::Result<()> {
-        self.rt.remove_file(path)
-    }
-
-    fn create_dir(&self, path: &str) -> io::Result<()> {
-        self.rt.create_dir(path)
-    }
-
-    fn remove_dir(&self, path: &str) -> io::Result<()> {
-        self.rt.remove_dir(path)
-    }
-
-    fn remove_dir_all<B: Allocator>(&self, alloc: B, path: &str) -> io::Result<()> {
-        self.rt.remove_dir_all(alloc, path)
-    }
-}
 
 #[test]
 fn another_shelf_reads_what_was_appended_and_cut(rt: HostRuntime) -> Result<(), Fail> {
@@ -239,48 +96,48 @@ fn a_failed_flush_is_never_taken_for_done(rt: HostRuntime) -> Result<(), Fail> {
     fs::create_dir(&rt, "frail")?;
     // The first sync is of the file, the second of the folder, and the third of the other file.
     for failing in [1, 2, 3] {
-        let syncs = Syncs::new(failing);
-        let mut shelf = FolderShelf::new(Faulty { rt, syncs: &syncs }, rt.alloc(), "frail")?;
+        let plan = Plan::failing_sync(failing);
+        let mut shelf = FolderShelf::new(Faulty { rt, plan: &plan }, rt.alloc(), "frail")?;
         shelf.append(File::Head, b"a")?;
         shelf.append(File::Book(0), b"b")?;
         shelf.flush(File::Seal(0))?;
-        assert_eq!(rt; syncs.made.load(SeqCst), 0);
+        assert_eq!(rt; plan.syncs.load(SeqCst), 0);
         assert_eq!(rt; shelf.flush(File::Head).is_ok(), failing > 2);
         for _ in 0..2 {
             assert_eq!(rt; shelf.flush(File::Book(0)).err(), Some(EdgeFault::Failed));
         }
         assert_eq!(rt; shelf.flush(File::Head).err(), Some(EdgeFault::Failed));
-        assert_eq!(rt; syncs.made.load(SeqCst), failing);
+        assert_eq!(rt; plan.syncs.load(SeqCst), failing);
     }
     Ok(())
 }
 
 #[test]
 fn what_changed_after_a_flush_is_flushed_again(rt: HostRuntime) -> Result<(), Fail> {
-    let syncs = Syncs::new(0);
+    let plan = Plan::new();
     fs::create_dir(&rt, "again")?;
-    let mut shelf = FolderShelf::new(Faulty { rt, syncs: &syncs }, rt.alloc(), "again")?;
+    let mut shelf = FolderShelf::new(Faulty { rt, plan: &plan }, rt.alloc(), "again")?;
     // The syncs so far: a flush after a file was made is two, of the file and of the folder.
     shelf.append(File::Head, b"ab")?;
     shelf.flush(File::Head)?;
-    assert_eq!(rt; syncs.made.load(SeqCst), 2);
+    assert_eq!(rt; plan.syncs.load(SeqCst), 2);
     shelf.append(File::Head, b"c")?;
     shelf.flush(File::Head)?;
-    assert_eq!(rt; syncs.made.load(SeqCst), 3);
+    assert_eq!(rt; plan.syncs.load(SeqCst), 3);
     shelf.cut(File::Head, 1)?;
     shelf.flush(File::Head)?;
-    assert_eq!(rt; syncs.made.load(SeqCst), 4);
+    assert_eq!(rt; plan.syncs.load(SeqCst), 4);
     shelf.append(File::Book(0), b"d")?;
     shelf.flush(File::Book(0))?;
-    assert_eq!(rt; syncs.made.load(SeqCst), 6);
+    assert_eq!(rt; plan.syncs.load(SeqCst), 6);
     Ok(())
 }
 
 #[test]
 fn a_failed_append_leaves_its_first_bytes(rt: HostRuntime) -> Result<(), Fail> {
-    let syncs = Syncs::new(0);
+    let plan = Plan::new();
     fs::create_dir(&rt, "short")?;
-    let mut shelf = FolderShelf::new(Faulty { rt, syncs: &syncs }, rt.alloc(), "short")?;
+    let mut shelf = FolderShelf::new(Faulty { rt, plan: &plan }, rt.alloc(), "short")?;
     assert_eq!(rt;
         shelf.append(File::Head, b"ab!c").err(),
         Some(EdgeFault::Failed)
@@ -294,16 +151,115 @@ fn a_failed_append_leaves_its_first_bytes(rt: HostRuntime) -> Result<(), Fail> {
 
 #[test]
 fn the_first_flush_reaches_what_an_earlier_run_left(rt: HostRuntime) -> Result<(), Fail> {
-    let syncs = Syncs::new(0);
+    let plan = Plan::new();
     fs::create_dir(&rt, "left")?;
     fs::write(&rt, "left/seal.0", b"a")?;
-    let mut shelf = FolderShelf::new(Faulty { rt, syncs: &syncs }, rt.alloc(), "left")?;
+    let mut shelf = FolderShelf::new(Faulty { rt, plan: &plan }, rt.alloc(), "left")?;
     // A cut that changes nothing opens no file.
     shelf.cut(File::Seal(0), 1)?;
     for _ in 0..2 {
         shelf.flush(File::Seal(0))?;
         // One sync of the file and one of the folder.
-        assert_eq!(rt; syncs.made.load(SeqCst), 2);
+        assert_eq!(rt; plan.syncs.load(SeqCst), 2);
     }
+    Ok(())
+}
+
+#[test]
+fn a_folder_that_cannot_be_opened_is_never_flushed(rt: HostRuntime) -> Result<(), Fail> {
+    let plan = Plan::new();
+    fs::create_dir(&rt, "shut")?;
+    let mut shelf = FolderShelf::new(Faulty { rt, plan: &plan }, rt.alloc(), "shut")?;
+    shelf.append(File::Head, b"a")?;
+    for _ in 0..2 {
+        assert_eq!(rt; shelf.flush(File::Head).err(), Some(EdgeFault::Failed));
+    }
+    Ok(())
+}
+
+#[test]
+fn a_failed_cut_is_not_taken_for_done(rt: HostRuntime) -> Result<(), Fail> {
+    let plan = Plan::failing_cut(3);
+    fs::create_dir(&rt, "long")?;
+    fs::write(&rt, "long/book.0", b"abcdef")?;
+    let mut shelf = FolderShelf::new(Faulty { rt, plan: &plan }, rt.alloc(), "long")?;
+    // The second cut is of a file whose length is known.
+    for _ in 0..2 {
+        assert_eq!(rt;
+            shelf.cut(File::Book(0), 3).err(),
+            Some(EdgeFault::Failed)
+        );
+        assert_eq!(rt; shelf.len(File::Book(0))?, 6);
+    }
+    shelf.append(File::Book(0), b"g")?;
+    assert_eq!(rt; shelf.cut(File::Book(0), 3).err(), Some(EdgeFault::Failed));
+    assert_eq!(rt; shelf.len(File::Book(0))?, 7);
+    shelf.cut(File::Book(0), 4)?;
+    assert_eq!(rt; shelf.len(File::Book(0))?, 4);
+    assert_eq!(rt;
+        fs::read(&rt, "long/book.0")?.as_slice(),
+        b"abcd".as_slice()
+    );
+    Ok(())
+}
+
+#[test]
+fn a_read_goes_on_until_its_piece_is_full(rt: HostRuntime) -> Result<(), Fail> {
+    let plan = Plan::new();
+    fs::create_dir(&rt, "slow")?;
+    fs::write(&rt, "slow/head", b"abcdef")?;
+    let mut shelf = FolderShelf::new(Faulty { rt, plan: &plan }, rt.alloc(), "slow")?;
+    let mut into = [0u8; 4];
+    assert_eq!(rt; shelf.read_at(File::Head, 1, &mut into)?, 4);
+    assert_eq!(rt; &into[..], b"bcde".as_slice());
+    // The file ends before the piece is full.
+    assert_eq!(rt; shelf.read_at(File::Head, 4, &mut into)?, 2);
+    assert_eq!(rt; &into[..2], b"ef".as_slice());
+    Ok(())
+}
+
+#[test]
+fn a_failed_read_is_no_end_of_a_file(rt: HostRuntime) -> Result<(), Fail> {
+    let plan = Plan::new();
+    fs::create_dir(&rt, "torn")?;
+    fs::write(&rt, "torn/head", b"ab!d")?;
+    let mut shelf = FolderShelf::new(Faulty { rt, plan: &plan }, rt.alloc(), "torn")?;
+    let mut into = [0u8; 4];
+    for at in [0, 2, 0] {
+        assert_eq!(rt;
+            shelf.read_at(File::Head, at, &mut into).err(),
+            Some(EdgeFault::Failed),
+            "from {at} on"
+        );
+    }
+    assert_eq!(rt; shelf.read_at(File::Head, 0, &mut into[..2])?, 2);
+    assert_eq!(rt; shelf.read_at(File::Head, 3, &mut into)?, 1);
+    assert_eq!(rt; shelf.len(File::Head)?, 4);
+    Ok(())
+}
+
+#[test]
+fn an_interrupted_call_on_a_file_is_made_again_64_times(rt: HostRuntime) -> Result<(), Fail> {
+    let plan = Plan::new();
+    fs::create_dir(&rt, "rung")?;
+    let mut shelf = FolderShelf::new(Faulty { rt, plan: &plan }, rt.alloc(), "rung")?;
+    let mut into = [0u8; 1];
+    for (interruptions, is_done) in [(1, true), (64, true), (65, false)] {
+        plan.interruptions.store(interruptions, SeqCst);
+        assert_eq!(rt;
+            shelf.append(File::Head, b"a").is_ok(),
+            is_done,
+            "{interruptions} of an append"
+        );
+        assert_eq!(rt; plan.interruptions.load(SeqCst), 0);
+        plan.interruptions.store(interruptions, SeqCst);
+        assert_eq!(rt;
+            shelf.read_at(File::Head, 0, &mut into).is_ok(),
+            is_done,
+            "{interruptions} of a read"
+        );
+        assert_eq!(rt; plan.interruptions.load(SeqCst), 0);
+    }
+    assert_eq!(rt; fs::read(&rt, "rung/head")?.as_slice(), b"aa".as_slice());
     Ok(())
 }

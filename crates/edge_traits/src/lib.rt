@@ -53,6 +53,8 @@ pub use std_sink::StdSink;
 pub use std_source::StdSource;
 
 #[cfg(test)]
+mod faulty_files;
+#[cfg(test)]
 mod folder_tests;
 #[cfg(test)]
 mod shelf_tests;

@@ -214,15 +214,18 @@ fn standard_output_receives_the_bytes_in_order(rt: HostRuntime) -> Result<(), Fa
     Ok(())
 }
 
-/// A writer that takes each piece whole and counts its flushes, of which all fail from so many on.
+/// A writer that takes each piece whole and counts the bytes that were not flushed since. All
+/// flushes fail from so many on.
 #[derive(Drop)]
 struct Buffered {
+    unflushed: usize,
     flushes: u32,
     most: u32,
 }
 
 impl Write for Buffered {
     fn write(&mut self, buf: &[u8]) -> io::Result<usize> {
+        self.unflushed = self.unflushed.saturating_add(buf.len());
         Ok(buf.len())
     }
 
@@ -230,21 +233,24 @@ impl Write for Buffered {
         if self.flushes >= self.most {
             return Err(ErrorKind::Other.into());
         }
+        self.unflushed = 0;
         self.flushes += 1;
         Ok(())
     }
 }
 
 #[test]
-fn each_write_is_flushed_once(rt: HostRuntime) -> Result<(), Fail> {
+fn each_write_is_followed_by_one_flush(rt: HostRuntime) -> Result<(), Fail> {
     let mut writer = Buffered {
+        unflushed: 0,
         flushes: 0,
         most: 2,
     };
-    assert_eq!(rt; write_flushed(&mut writer, b"abc")?, 3);
-    assert_eq!(rt; writer.flushes, 1);
-    assert_eq!(rt; write_flushed(&mut writer, b"de")?, 2);
-    assert_eq!(rt; writer.flushes, 2);
+    for (piece, flushes) in [(b"abc".as_slice(), 1), (b"de".as_slice(), 2)] {
+        assert_eq!(rt; write_flushed(&mut writer, piece)?, piece.len());
+        assert_eq!(rt; writer.flushes, flushes);
+        assert_eq!(rt; writer.unflushed, 0);
+    }
     assert!(rt; write_flushed(&mut writer, b"f").is_err());
     Ok(())
 }
