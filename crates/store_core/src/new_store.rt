@@ -88,7 +88,7 @@ fn write_settings<F: Shelf>(shelf: &mut F, params: &Params) -> Result<(), EdgeFa
     ensures other_files { (f : File) → f ≢ Head → f ≢ Seal 0
         → content (F.files shelf.new) f ≡ content (F.files shelf.old) f }
     ensures other_loose { (f : File) → f ≢ Head → f ≢ Seal 0 → F.loose shelf.new f ≡ F.loose shelf.old f }
-    ensures flushed { OnOk result (F.loose shelf.new (Seal 0) ≡ false) }
+    ensures flushed { OnOk result ((F.loose shelf.new Head ≡ false) × (F.loose shelf.new (Seal 0) ≡ false)) }
 
     ensures counts { CountsFaults (IsErrOf result EdgeFault.Failed) F.faults F.faultless shelf.old shelf.new }
 {
