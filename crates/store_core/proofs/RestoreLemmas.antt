@@ -2,7 +2,7 @@
 use Rattle.std.proofs.Common.{◌≡◌, inl, inr, ℕ, zero, suc, ◌+◌, ◌<◌, ◌≤◌, List, [], ◌∷◌, ◌++◌, length, map, take, drop, refl, ap, sym, subst, ◌∙◌, arith, true, false, append-nil, length-append}
 use Rattle.std.specs.List.{All, AllByRecursion, concat, position, position_or_len, slice_get}
 use Rattle.std.specs.Option.{option_and_then}
-use Rattle.std.specs.Prelude.{Err, IfSome, None, Ok, OnErr, OnOk, Option, Result, Some, cond, nat_le, nat_lt, not, option_map, slice_index_or, unwrap_or, ◌&&◌, ◌↔◌}
+use Rattle.std.specs.Prelude.{Err, IfSome, IsErrAnd, None, Ok, OnErr, OnOk, Option, Result, Some, cond, nat_le, nat_lt, not, option_map, slice_index_or, unwrap_or, ◌&&◌, ◌↔◌}
 use Rattle.std.specs.Str.{bytes_eq}
 use Rattle.std.proofs.Math.ListN.{get_or-append}
 use Rattle.std.proofs.Math.Seq.{split_at, take-append-add}
@@ -34,7 +34,7 @@ use Rattle.sd_base.proofs.Recipes.{ArePlaced as AreAllPlaced, chunk_at-first_ind
 use Rattle.sd_base.proofs.StateBooks.{first_index-below}
 use Rattle.sd_base.proofs.States.{among_later, among_own, placed-stored}
 use Rattle.store_core.specs.Offers.{IsReadDamaged}
-use Rattle.store_core.specs.Restores.{FindsDamage, IsIntact, RestoresAll, RestoresPart, RestoresState, bytes_as_read, recipe_named, session_bytes, unknown_place}
+use Rattle.store_core.specs.Restores.{FindsDamage, HoldsBack, HoldsBackPart, IsIntact, OnlyRestores, RestoresAll, RestoresPart, RestoresState, bytes_as_read, recipe_named, session_bytes, unknown_place}
 use Rattle.store_core.specs.StoreFields.{ArePlaced, lengths_of}
 use Rattle.store_core.specs.StoreStates.{StandsFor, StoreState, chunk_as_read, chunks_of_store, kept_chunk}
 use Rattle.store_core.specs.declared.fault.StoreFault.{StoreFault}
@@ -96,9 +96,16 @@ pub at-err : {T P : Type 0} (result : Result T StoreFault) → P → OnErr resul
 at-err (Ok value) holds = tt
 at-err (Err fault) holds = holds
 
-on-ok : {T P Q : Type 0} (result : Result T StoreFault) → (P → Q) → OnOk result P → OnOk result Q
+pub on-ok : {T P Q : Type 0} (result : Result T StoreFault) → (P → Q) → OnOk result P → OnOk result Q
 on-ok (Ok value) step before = step before
 on-ok (Err fault) step before = tt
+
+-- a refusal that is passed on is one of those of restoring
+pub restores-passed : {T : Type 0} (fault : StoreFault) (r : Result T StoreFault) →
+    (let refused : Result T StoreFault = Err fault in OnlyRestores refused) → IsErrAnd r (λ e. e ≡ fault) → OnErr r (OnlyRestores r)
+restores-passed fault (Ok value) only same = tt
+restores-passed {T = T} fault (Err e) only same =
+    subst (λ f. let refused : Result T StoreFault = Err f in OnlyRestores refused) (sym same) only
 
 pub on-err : {T P Q : Type 0} (result : Result T StoreFault) → (P → Q) → OnErr result P → OnErr result Q
 on-err (Ok value) step before = tt
@@ -111,76 +118,62 @@ module _ (name_of : List ℕ → List ℕ) (files : File → List ℕ) (store : 
   abbrev Intact : List ℕ → Type 0
   Intact recipe = All (IsIntact name_of files store) recipe
 
-  nothing-restored : (written : Option (List ℕ)) → RestoresAll name_of files store [] written written
-  nothing-restored written = record { intact = λ k d lt. absurd (omega (arith, lt)); written = appends-nothing written }
-
   one-intact : (n : ℕ) → IsIntact name_of files store n → Intact (n ∷ [])
   one-intact n is = All-from_recursion (IsIntact name_of files store) (n ∷ []) (is, tt)
 
   bytes-one : (n : ℕ) → Bytes (n ∷ []) ≡ chunk_as_read files store n
   bytes-one n = append-nil (chunk_as_read files store n)
 
-  -- some places are restored, and then some more
-  all-on : (xs ys : List ℕ) (a b c : Option (List ℕ)) → RestoresAll name_of files store xs a b →
-      RestoresAll name_of files store ys b c → RestoresAll name_of files store (xs ++ ys) a c
-  all-on xs ys a b c first next = record {
+  -- some places are held back, and then some more
+  held-on : (xs ys held now : List ℕ) (a b c : Option (List ℕ)) → HoldsBack name_of files store xs [] a b held →
+      HoldsBack name_of files store ys held b c now → HoldsBack name_of files store (xs ++ ys) [] a c now
+  held-on xs ys held now a b c first next = record {
     intact = All-append (IsIntact name_of files store) xs ys first.intact next.intact;
-    written = subst (Appends a c) (sym (flat_map-append (chunk_as_read files store) xs ys))
-        (appends_on a b c (Bytes xs) (Bytes ys) first.written next.written);
+    piece = first.piece ++ next.piece;
+    written = appends_on a b c first.piece next.piece first.written next.written;
+    rest = append_assoc first.piece next.piece now ∙ ap (λ bytes. first.piece ++ bytes) next.rest
+        ∙ sym (append_assoc first.piece held (Bytes ys)) ∙ ap (λ bytes. bytes ++ Bytes ys) first.rest
+        ∙ sym (flat_map-append (chunk_as_read files store) xs ys);
   }
 
-  part-on : (xs ys : List ℕ) (a b c : Option (List ℕ)) → RestoresAll name_of files store xs a b →
-      RestoresPart name_of files store ys b c → RestoresPart name_of files store (xs ++ ys) a c
-  part-on xs ys a b c first next =
-      let some = take-append-add xs ys next.places in
-      let sum = length-append xs ys in
+  part-on : (xs ys rest held : List ℕ) (a b c : Option (List ℕ)) → HoldsBack name_of files store xs [] a b held →
+      HoldsBackPart name_of files store ys held b c → RestoresPart name_of files store (xs ++ (ys ++ rest)) a c
+  part-on xs ys rest held a b c first next =
+      let some = take-append-add xs (ys ++ rest) next.places
+      ∙ ap (λ places. xs ++ places) (take-append-le next.places ys rest next.within) in
+      let sum = length-append xs (ys ++ rest) in
+      let more = length-append ys rest in
+      let last = Bytes (take next.places ys) in
+      let all : first.piece ++ (held ++ last) ≡ Bytes (xs ++ take next.places ys) =
+      sym (append_assoc first.piece held last) ∙ ap (λ bytes. bytes ++ last) first.rest
+      ∙ sym (flat_map-append (chunk_as_read files store) xs (take next.places ys)) in
       record {
         places = length xs + next.places;
-        within = omega (arith, sum, next.within);
+        within = omega (arith, sum, more, next.within);
         intact = subst Intact (sym some)
             (All-append (IsIntact name_of files store) xs (take next.places ys) first.intact next.intact);
         written = subst (λ recipe. AppendsPrefix a c (Bytes recipe)) (sym some)
-            (subst (AppendsPrefix a c) (sym (flat_map-append (chunk_as_read files store) xs (take next.places ys)))
-            (prefix-on a b c (Bytes xs) (Bytes (take next.places ys)) first.written next.written));
+            (subst (AppendsPrefix a c) all (prefix-on a b c first.piece (held ++ last) first.written next.written));
       }
 
-  damage-on : (xs ys : List ℕ) (damage : Damage) (a b c : Option (List ℕ)) → RestoresAll name_of files store xs a b →
-      FindsDamage name_of files store ys damage b c → FindsDamage name_of files store (xs ++ ys) damage a c
-  damage-on xs ys damage a b c first next =
-      let sum = length-append xs ys in
-      record {
-        place = length xs + next.place;
-        within = omega (arith, sum, next.within);
-        restored = subst (λ recipe. RestoresAll name_of files store recipe a c) (sym (take-append-add xs ys next.place))
-            (all-on xs (take next.place ys) a b c first next.restored);
-        damaged = subst (λ n. IsReadDamaged name_of files store n damage)
-            (sym (get_or-append-add xs ys next.place 0)) next.damaged;
-      }
+  -- what is held back is written
+  held-written : (recipe held : List ℕ) (a b c : Option (List ℕ)) → HoldsBack name_of files store recipe [] a b held →
+      Appends b c held → RestoresAll name_of files store recipe a c
+  held-written recipe held a b c first last = record {
+    intact = first.intact;
+    written = subst (Appends a c) first.rest (appends_on a b c first.piece held first.written last);
+  }
 
-  -- the same of a longer recipe
-  part-longer : (xs ys : List ℕ) (a b : Option (List ℕ)) → RestoresPart name_of files store xs a b →
-      RestoresPart name_of files store (xs ++ ys) a b
-  part-longer xs ys a b part =
-      let some = take-append-le part.places xs ys part.within in
-      let sum = length-append xs ys in
+  held-cut : (recipe held : List ℕ) (a b c : Option (List ℕ)) → HoldsBack name_of files store recipe [] a b held →
+      AppendsPrefix b c held → RestoresPart name_of files store recipe a c
+  held-cut recipe held a b c first last =
+      let all = sym (take_all (length recipe) recipe (omega arith)) in
       record {
-        places = part.places;
-        within = omega (arith, sum, part.within);
-        intact = subst Intact (sym some) part.intact;
-        written = subst (λ recipe. AppendsPrefix a b (Bytes recipe)) (sym some) part.written;
-      }
-
-  damage-longer : (xs ys : List ℕ) (damage : Damage) (a b : Option (List ℕ)) →
-      FindsDamage name_of files store xs damage a b → FindsDamage name_of files store (xs ++ ys) damage a b
-  damage-longer xs ys damage a b found =
-      let some = take-append-le found.place xs ys (omega (arith, found.within)) in
-      let sum = length-append xs ys in
-      record {
-        place = found.place;
-        within = omega (arith, sum, found.within);
-        restored = subst (λ recipe. RestoresAll name_of files store recipe a b) (sym some) found.restored;
-        damaged = subst (λ n. IsReadDamaged name_of files store n damage)
-            (sym (get_or-append xs ys 0 found.place found.within)) found.damaged;
+        places = length recipe;
+        within = omega arith;
+        intact = subst Intact all first.intact;
+        written = subst (λ places. AppendsPrefix a c (Bytes places)) all
+            (subst (AppendsPrefix a c) first.rest (prefix-on a b c first.piece held first.written last));
       }
 
   -- what was written of some first places is a prefix of all
@@ -212,72 +205,135 @@ none-part name_of (Some files) store recipe written = record {
   written = prefix-whole written written [] (appends-nothing written);
 }
 
-pub one-damaged : (name_of : List ℕ → List ℕ) (told : Told) (store : StoreState) (n : ℕ) (damage : Damage)
-    (written : Option (List ℕ)) → IfSome told (λ files. IsReadDamaged name_of files store n damage) →
-    IfSome told (λ files. FindsDamage name_of files store (n ∷ []) damage written written)
-one-damaged name_of None store n damage written found = tt
-one-damaged name_of (Some files) store n damage written found = record {
-  place = 0;
-  within = omega arith;
-  restored = nothing-restored name_of files store written;
-  damaged = found;
+-- nothing is held back before the first place
+pub none-held : (name_of : List ℕ → List ℕ) (told : Told) (store : StoreState) (recipe : List ℕ)
+    (written : Option (List ℕ)) → IfSome told (λ files. HoldsBack name_of files store (take 0 recipe) [] written written [])
+none-held name_of None store recipe written = tt
+none-held name_of (Some files) store recipe written = record {
+  intact = λ k d lt. absurd (omega (arith, lt));
+  piece = [];
+  written = appends-nothing written;
+  rest = refl;
 }
 
-pub one-part : (name_of : List ℕ → List ℕ) (told : Told) (store : StoreState) (n : ℕ) (chunk : List ℕ)
+-- a piece of what was held back and the chunk is written, and the rest is held back
+pub one-held : (name_of : List ℕ → List ℕ) (told : Told) (store : StoreState) (n : ℕ)
+    (chunk held piece now : List ℕ) (a b : Option (List ℕ)) → IfSome told (λ files. chunk ≡ chunk_as_read files store n) →
+    name_of chunk ≡ (kept_chunk store n).name → Appends a b piece → piece ++ now ≡ held ++ chunk →
+    IfSome told (λ files. HoldsBack name_of files store (n ∷ []) held a b now)
+one-held name_of None store n chunk held piece now a b read intact written all = tt
+one-held name_of (Some files) store n chunk held piece now a b read intact written all = record {
+  intact = one-intact name_of files store n (ap name_of (sym read) ∙ intact);
+  piece = piece;
+  written = written;
+  rest = all ∙ ap (λ bytes. held ++ bytes) (read ∙ sym (bytes-one name_of files store n));
+}
+
+pub one-part : (name_of : List ℕ → List ℕ) (told : Told) (store : StoreState) (n : ℕ) (chunk held : List ℕ)
     (a b : Option (List ℕ)) → IfSome told (λ files. chunk ≡ chunk_as_read files store n) →
-    name_of chunk ≡ (kept_chunk store n).name → AppendsPrefix a b chunk →
-    IfSome told (λ files. RestoresPart name_of files store (n ∷ []) a b)
-one-part name_of None store n chunk a b read intact prefix = tt
-one-part name_of (Some files) store n chunk a b read intact prefix = record {
+    name_of chunk ≡ (kept_chunk store n).name → AppendsPrefix a b (held ++ chunk) →
+    IfSome told (λ files. HoldsBackPart name_of files store (n ∷ []) held a b)
+one-part name_of None store n chunk held a b read intact prefix = tt
+one-part name_of (Some files) store n chunk held a b read intact prefix = record {
   places = 1;
   within = omega arith;
   intact = one-intact name_of files store n (ap name_of (sym read) ∙ intact);
-  written = subst (AppendsPrefix a b) (read ∙ sym (bytes-one name_of files store n)) prefix;
+  written = subst (λ bytes. AppendsPrefix a b (held ++ bytes)) (read ∙ sym (bytes-one name_of files store n)) prefix;
 }
+
+-- a prefix of what was held back was written, and nothing of the chunk
+pub part-before : (name_of : List ℕ → List ℕ) (told : Told) (store : StoreState) (n : ℕ) (held : List ℕ)
+    (a b : Option (List ℕ)) → AppendsPrefix a b held →
+    IfSome told (λ files. HoldsBackPart name_of files store (n ∷ []) held a b)
+part-before name_of None store n held a b prefix = tt
+part-before name_of (Some files) store n held a b prefix = record {
+  places = 0;
+  within = omega arith;
+  intact = λ k d lt. absurd (omega (arith, lt));
+  written = subst (AppendsPrefix a b) (sym (append-nil held)) prefix;
+}
+
+-- all of it was written
+pub whole-before : (name_of : List ℕ → List ℕ) (told : Told) (store : StoreState) (n : ℕ) (held : List ℕ)
+    (a b : Option (List ℕ)) → Appends a b held →
+    IfSome told (λ files. HoldsBackPart name_of files store (n ∷ []) held a b)
+whole-before name_of told store n held a b written =
+    part-before name_of told store n held a b (prefix-whole a b held written)
+
+-- none of it was written
+pub nothing-before : (name_of : List ℕ → List ℕ) (told : Told) (store : StoreState) (n : ℕ) (held : List ℕ)
+    (written : Option (List ℕ)) → IfSome told (λ files. HoldsBackPart name_of files store (n ∷ []) held written written)
+nothing-before name_of told store n held written =
+    part-before name_of told store n held written written (0, omega arith, appends-nothing written)
+
+-- the damage is that of the chunk, and all that was held back was written
+pub damaged-before : (name_of : List ℕ → List ℕ) (told : Told) (store : StoreState) (n : ℕ) (damage : Damage)
+    (held : List ℕ) (a b : Option (List ℕ)) → IfSome told (λ files. IsReadDamaged name_of files store n damage) →
+    Appends a b held → IfSome told (λ files. IsReadDamaged name_of files store n damage × Appends a b held)
+damaged-before name_of None store n damage held a b found written = tt
+damaged-before name_of (Some files) store n damage held a b found written = (found, written)
 
 -- ---- one more place of a recipe
 
 module _ (name_of : List ℕ → List ℕ) (store : StoreState) (recipe : List ℕ) (i : ℕ) (within : i < length recipe)
-    (a b c : Option (List ℕ)) where
+    (held : List ℕ) (a b c : Option (List ℕ)) where
   abbrev here : List ℕ
   here = slice_index_or recipe i 0 ∷ []
 
-  whole : take i recipe ++ (here ++ drop (suc i) recipe) ≡ recipe
-  whole = sym (split_at recipe i 0 within)
-
-  pub place-restored : (told now : Told) → now ≡ told →
-      IfSome told (λ files. RestoresAll name_of files store (take i recipe) a b) →
-      IfSome now (λ files. RestoresAll name_of files store here b c) →
-      IfSome told (λ files. RestoresAll name_of files store (take (i + 1) recipe) a c)
-  place-restored None now same first next = tt
-  place-restored (Some files) now same first next =
-      let found = subst (λ (t : Told). IfSome t (λ f. RestoresAll name_of f store here b c)) same next in
-      subst (λ places. RestoresAll name_of files store places a c) (sym (take_more recipe i 0 within))
-      (all-on name_of files store (take i recipe) here a b c first found)
+  pub place-held : (after : List ℕ) (told now : Told) → now ≡ told →
+      IfSome told (λ files. HoldsBack name_of files store (take i recipe) [] a b held) →
+      IfSome now (λ files. HoldsBack name_of files store here held b c after) →
+      IfSome told (λ files. HoldsBack name_of files store (take (i + 1) recipe) [] a c after)
+  place-held after None now same first next = tt
+  place-held after (Some files) now same first next =
+      let found = subst (λ (t : Told). IfSome t (λ f. HoldsBack name_of f store here held b c after)) same next in
+      subst (λ places. HoldsBack name_of files store places [] a c after) (sym (take_more recipe i 0 within))
+      (held-on name_of files store (take i recipe) here held after a b c first found)
 
   pub place-damaged : (damage : Damage) (told now : Told) → now ≡ told →
-      IfSome told (λ files. RestoresAll name_of files store (take i recipe) a b) →
-      IfSome now (λ files. FindsDamage name_of files store here damage b c) →
+      IfSome told (λ files. HoldsBack name_of files store (take i recipe) [] a b held) →
+      IfSome now (λ files. IsReadDamaged name_of files store (slice_index_or recipe i 0) damage × Appends b c held) →
       IfSome told (λ files. FindsDamage name_of files store recipe damage a c)
   place-damaged damage None now same first next = tt
   place-damaged damage (Some files) now same first next =
-      let rest = drop (suc i) recipe in
-      let found = subst (λ (t : Told). IfSome t (λ f. FindsDamage name_of f store here damage b c)) same next in
-      subst (λ places. FindsDamage name_of files store places damage a c) whole
-      (damage-on name_of files store (take i recipe) (here ++ rest) damage a b c first
-      (damage-longer name_of files store here rest damage b c found))
+      let found = subst (λ (t : Told). IfSome t (λ f.
+      IsReadDamaged name_of f store (slice_index_or recipe i 0) damage × Appends b c held)) same next in
+      record {
+        place = i;
+        within = within;
+        restored = held-written name_of files store (take i recipe) held a b c first found.1;
+        damaged = found.0;
+      }
 
   pub place-part : (told now : Told) → now ≡ told →
-      IfSome told (λ files. RestoresAll name_of files store (take i recipe) a b) →
-      IfSome now (λ files. RestoresPart name_of files store here b c) →
+      IfSome told (λ files. HoldsBack name_of files store (take i recipe) [] a b held) →
+      IfSome now (λ files. HoldsBackPart name_of files store here held b c) →
       IfSome told (λ files. RestoresPart name_of files store recipe a c)
   place-part None now same first next = tt
   place-part (Some files) now same first next =
-      let rest = drop (suc i) recipe in
-      let found = subst (λ (t : Told). IfSome t (λ f. RestoresPart name_of f store here b c)) same next in
-      subst (λ places. RestoresPart name_of files store places a c) whole
-      (part-on name_of files store (take i recipe) (here ++ rest) a b c first
-      (part-longer name_of files store here rest b c found))
+      let found = subst (λ (t : Told). IfSome t (λ f. HoldsBackPart name_of f store here held b c)) same next in
+      subst (λ places. RestoresPart name_of files store places a c) (sym (split_at recipe i 0 within))
+      (part-on name_of files store (take i recipe) here (drop (suc i) recipe) held a b c first found)
+
+-- ---- the end of a recipe
+
+pub end-restored : (name_of : List ℕ → List ℕ) (told : Told) (store : StoreState) (recipe held : List ℕ) (i : ℕ)
+    (a b c : Option (List ℕ)) → length recipe ≤ i →
+    IfSome told (λ files. HoldsBack name_of files store (take i recipe) [] a b held) → Appends b c held →
+    IfSome told (λ files. RestoresAll name_of files store recipe a c)
+end-restored name_of None store recipe held i a b c all first last = tt
+end-restored name_of (Some files) store recipe held i a b c all first last =
+    subst (λ places. RestoresAll name_of files store places a c) (take_all i recipe all)
+    (held-written name_of files store (take i recipe) held a b c first last)
+
+pub end-part : (name_of : List ℕ → List ℕ) (told : Told) (store : StoreState) (recipe held : List ℕ) (i : ℕ)
+    (a b c : Option (List ℕ)) → length recipe ≤ i →
+    IfSome told (λ files. HoldsBack name_of files store (take i recipe) [] a b held) → AppendsPrefix b c held →
+    IfSome told (λ files. RestoresPart name_of files store recipe a c)
+end-part name_of None store recipe held i a b c all first last = tt
+end-part name_of (Some files) store recipe held i a b c all first last =
+    subst (λ places. RestoresPart name_of files store places a c) (take_all i recipe all)
+    (held-cut name_of files store (take i recipe) held a b c first last)
 
 -- if no number of a list is the first of at least `count`, each is below it
 pub all-below : (count : ℕ) (numbers : List ℕ) (i : ℕ) → position (nat_le count) numbers ≡ None → i < length numbers →

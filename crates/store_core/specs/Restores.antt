@@ -1,5 +1,5 @@
 -- What is written of a session that is restored.
-use Rattle.std.specs.Prelude.{◌≡◌, ◌≢◌, ◌⊎◌, ◌↔◌, ℕ, ◌<◌, ◌≤◌, nat_le, List, [], length, take, slice_index_or, Option, None, unwrap_or, option_map, OnOk, OnErr, Result, Err}
+use Rattle.std.specs.Prelude.{◌≡◌, ◌≢◌, ◌⊎◌, ◌↔◌, ℕ, ◌<◌, ◌≤◌, nat_le, List, [], ◌++◌, length, take, slice_index_or, Option, None, unwrap_or, option_map, OnOk, OnErr, Result, Err}
 use Rattle.std.specs.Option.{option_and_then}
 use Rattle.std.specs.List.{All, flat_map, position, slice_get}
 use Rattle.edge_traits.specs.Sink.{Appends, AppendsPrefix}
@@ -49,6 +49,22 @@ module _ (name_of : List ℕ → List ℕ) (files : File → List ℕ) (store : 
     pub within : places ≤ length recipe
     pub intact : All IsIntact (take places recipe)
     pub written : AppendsPrefix before after (bytes_as_read files store (take places recipe))
+
+  -- Each chunk of a recipe is intact. What was written, with what is held back now, is what was held
+  -- back before, with the bytes of these chunks.
+  pub record HoldsBack (recipe held : List ℕ) (before after : Option (List ℕ)) (now : List ℕ) : Type 0 where
+    pub intact : All IsIntact recipe
+    pub piece : List ℕ
+    pub written : Appends before after piece
+    pub rest : piece ++ now ≡ held ++ bytes_as_read files store recipe
+
+  -- the chunks of some first places of a recipe are intact, and a prefix of what was held back before,
+  -- with their bytes, was written
+  pub record HoldsBackPart (recipe held : List ℕ) (before after : Option (List ℕ)) : Type 0 where
+    pub places : ℕ
+    pub within : places ≤ length recipe
+    pub intact : All IsIntact (take places recipe)
+    pub written : AppendsPrefix before after (held ++ bytes_as_read files store (take places recipe))
 
   -- this is the damage of the first chunk of a recipe that is not intact, and exactly the bytes of
   -- the places before it were written

@@ -9,7 +9,7 @@ ghost use Rattle.sd_base.specs.declared.damage.Damage.TheVariants.{Recipe};
 ghost use Rattle.store_core.specs.Containers.{OnlyFinds};
 ghost use Rattle.store_core.specs.Faults.{IsOfChunk};
 ghost use Rattle.store_core.specs.Offers.{IsReadDamaged};
-ghost use Rattle.store_core.specs.Restores.{FindsDamage, IsIntact, OnlyRestores, RestoresAll, RestoresPart, RestoresState, recipe_named, unknown_place};
+ghost use Rattle.store_core.specs.Restores.{FindsDamage, HoldsBack, HoldsBackPart, IsIntact, OnlyRestores, RestoresAll, RestoresPart, RestoresState, recipe_named, unknown_place};
 ghost use Rattle.store_core.specs.Shelves.{CountsFaults, OnlyReads};
 ghost use Rattle.store_core.specs.StoreStates.{StandsFor, chunk_as_read, chunks_of_store, kept_chunk};
 
@@ -17,7 +17,10 @@ use super::Store;
 use crate::StoreFault;
 use chunk_names::Namer;
 use edge_traits::{EdgeFault, Shelf, Sink, write_all};
-use sd_base::{Damage, Name};
+use sd_base::{Damage, MAX_CHUNK_LEN, Name};
+
+/// Bytes that are written at once, so that a write costs little beside the reading of its chunks.
+const PIECE_LEN: usize = 262_144;
 
 impl<N: Namer> Store<N> {
     /// Writes the bytes of the live session of a name to a sink: the chunks of its recipe, in order, as
@@ -93,7 +96,8 @@ impl<N: Namer> Store<N> {
         recipe.iter().position(|number| count <= *number)
     }
 
-    // Restores place after place of a recipe, so that one chunk at a time is held in memory.
+    // Restores place after place of a recipe. The chunks are held back until they are a piece, so that
+    // a write takes many chunks, and no more than a piece and a chunk is held in memory.
     fn restore_places<F: Shelf, K: Sink>(
         &self,
         shelf: &mut F,
@@ -118,28 +122,31 @@ impl<N: Namer> Store<N> {
             shelf.old shelf.new }
         ensures counts { CountsFaults (result ≡ Err StoreFault.SinkFault) K.faults K.faultless sink.old sink.new }
     {
+        let mut held = Vec::with_capacity(self.alloc, PIECE_LEN + MAX_CHUNK_LEN as usize)?;
         for number in recipe {
-            self.restore_chunk(shelf, sink, *number)?;
+            self.hold_back(shelf, sink, &mut held, *number)?;
         }
-        Ok(())
+        write_piece(sink, &held)
     }
 
-    // Restores one chunk.
-    fn restore_chunk<F: Shelf, K: Sink>(
+    // Reads one chunk and holds it back. What is held back is written once it is a piece, and if the
+    // chunk cannot be read, so that the chunks before it are written.
+    fn hold_back<F: Shelf, K: Sink>(
         &self,
         shelf: &mut F,
         sink: &mut K,
+        held: &mut Vec<u8>,
         number: u32,
     ) -> Result<(), StoreFault>
         requires within { number < length (chunks_of_store self.now) }
 
-        ensures restored { OnOk result (IfSome (F.files shelf.old) (λ files.
-            RestoresAll N.name_of files self.now (number ∷ []) (K.written sink.old) (K.written sink.new))) }
+        ensures held { OnOk result (IfSome (F.files shelf.old) (λ files. HoldsBack N.name_of files self.now
+            (number ∷ []) held.old.items (K.written sink.old) (K.written sink.new) held.new.items)) }
         ensures damaged { (damage : Damage) → result ≡ Err (StoreFault.Damaged damage)
-            → IfSome (F.files shelf.old) (λ files.
-            FindsDamage N.name_of files self.now (number ∷ []) damage (K.written sink.old) (K.written sink.new)) }
-        ensures prefix { OnErr result (IfSome (F.files shelf.old) (λ files.
-            RestoresPart N.name_of files self.now (number ∷ []) (K.written sink.old) (K.written sink.new))) }
+            → IfSome (F.files shelf.old) (λ files. IsReadDamaged N.name_of files self.now number damage
+            × Appends (K.written sink.old) (K.written sink.new) held.old.items) }
+        ensures prefix { OnErr result (IfSome (F.files shelf.old) (λ files. HoldsBackPart N.name_of files
+            self.now (number ∷ []) held.old.items (K.written sink.old) (K.written sink.new))) }
         ensures kind { (damage : Damage) → result ≡ Err (StoreFault.Damaged damage) → IsOfChunk damage }
         ensures refused { OnErr result (OnlyRestores result) }
         ensures session { result ≡ Err StoreFault.NoSession → ⊥ }
@@ -148,8 +155,19 @@ impl<N: Namer> Store<N> {
             shelf.old shelf.new }
         ensures counts { CountsFaults (result ≡ Err StoreFault.SinkFault) K.faults K.faultless sink.old sink.new }
     {
-        let chunk = self.intact_chunk(shelf, number)?;
-        write_piece(sink, &chunk)
+        let chunk = match self.intact_chunk(shelf, number) {
+            Ok(chunk) => chunk,
+            Err(fault) => {
+                write_piece(sink, held)?;
+                return Err(fault);
+            }
+        };
+        held.extend_from_slice(&chunk)?;
+        if held.len() >= PIECE_LEN {
+            write_piece(sink, held)?;
+            held.clear();
+        }
+        Ok(())
     }
 
     // The bytes of a chunk as they are read. They must have its name.
@@ -180,10 +198,11 @@ impl<N: Namer> Store<N> {
     }
 }
 
-// Writes a whole piece. A fault is that of the sink.
+// Writes a whole piece; an empty one needs no write. A fault is that of the sink.
 fn write_piece<K: Sink>(sink: &mut K, bytes: &[u8]) -> Result<(), StoreFault>
     ensures written { OnOk result (Appends (K.written sink.old) (K.written sink.new) bytes.now) }
     ensures prefix { OnErr result (AppendsPrefix (K.written sink.old) (K.written sink.new) bytes.now) }
+    ensures no_call { length bytes.now ≡ 0 → sink.new ≡ sink.old }
     ensures refused { OnErr result ((result ≡ Err StoreFault.SinkFault) ⊎ (result ≡ Err StoreFault.OutOfMemory)) }
     ensures counts { CountsFaults (result ≡ Err StoreFault.SinkFault) K.faults K.faultless sink.old sink.new }
 {

@@ -281,6 +281,49 @@ fn a_changed_byte_of_a_chunk_ends_a_restore(rt: HostRuntime) -> Result<(), Fail>
     Ok(())
 }
 
+/// What is written of the session `a` of a store, to a sink of which these calls fail. The call must end
+/// so.
+fn written_until(
+    rt: &HostRuntime,
+    shelf: &mut MemShelf,
+    failing: &[u32],
+    ends: StoreFault,
+) -> Result<Vec<u8>, Fail> {
+    let store = opened(rt, shelf, Sha256Namer)?;
+    let mut sink = MemSink::new(rt.alloc(), Vec::from_slice(rt.alloc(), failing)?);
+    let outcome = store.restore(shelf, &mut sink, &name_of(b"a")?);
+    if outcome != Err(ends) {
+        return Err(Fail::from("it ends so"));
+    }
+    Ok(sink.written().to_vec(rt.alloc())?)
+}
+
+// A piece is 262,144 bytes, and 2,622 chunks of 100 bytes are the first to have as many.
+#[test]
+fn a_session_is_written_in_pieces(rt: HostRuntime) -> Result<(), Fail> {
+    let places = [B; 2_700];
+    let mut shelf = with_session(&rt, Sha256Namer, &places)?;
+    let written = written_until(&rt, &mut shelf, &[0], StoreFault::SinkFault)?;
+    assert!(rt; written.is_empty());
+    let written = written_until(&rt, &mut shelf, &[1], StoreFault::SinkFault)?;
+    assert_eq!(rt; written.len(), 262_200);
+    assert!(rt; written == joined(&rt, &places[..2_622])?);
+    assert!(rt; comes_back_anew(&rt, &mut shelf, Sha256Namer, b"a", &places)?);
+    Ok(())
+}
+
+// Making and opening a store takes 13 calls, taking in a session of two new chunks 11, and opening the
+// store again 7. So call 32 reads the second chunk.
+#[test]
+fn a_failed_read_ends_a_restore_after_the_chunks_before(rt: HostRuntime) -> Result<(), Fail> {
+    let mut shelf = made(&rt, &[ShelfFail { call: 32, kept: 0 }])?;
+    let outcome = take_in_anew(&rt, &mut shelf, Sha256Namer, b"a", &[A, B])?;
+    assert_eq!(rt; outcome, Ok(0));
+    let written = written_until(&rt, &mut shelf, &[], StoreFault::ShelfFault)?;
+    assert_eq!(rt; written.as_slice(), A);
+    Ok(())
+}
+
 #[test]
 fn a_changed_byte_of_a_chunk_is_found_by_an_offer(rt: HostRuntime) -> Result<(), Fail> {
     let mut shelf = with_changed_byte(&rt)?;
