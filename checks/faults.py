@@ -306,7 +306,9 @@ def ingest_that_fails_at_any_length_of_a_file_leaves_what_was_committed():
             expect(came, output=INGESTED)
             expect_files(whole, files_in(FOLDER))
 
-    each_row([(length,) for length in range(longest + 2)], expect_row)
+    # A limit below what the container has lets no byte be appended, like the last such one.
+    shortest = len(twice()["container.0.0"]) - 1
+    each_row([(length,) for length in (0, *range(shortest, longest + 2))], expect_row)
 
 
 @test

@@ -4,6 +4,7 @@ import os
 import signal
 import subprocess
 from contextlib import contextmanager
+from dataclasses import replace
 from random import Random
 from time import perf_counter, sleep
 
@@ -196,7 +197,7 @@ def output_without_a_reader_leaves_the_state_after():
 @test
 def reader_that_closes_early_has_a_part_of_the_session():
     files, text = {}, Random(34).randbytes(400_000)
-    init(files, DEFAULTS)
+    init(files, replace(DEFAULTS, min=3000, max=3000))
     write_files(FOLDER, with_ingest(files, b"n", text))
     before = files_in(FOLDER)
     for length in (1, 5000, 100_000):

@@ -111,7 +111,8 @@ def disturbed(words, call, how, names):
     came = subprocess.run(command, input=TEXT, capture_output=True)
     with open("trace") as trace:
         happened = "INJECTED" in trace.read() or came.returncode < 0
-    return (came.returncode, came.stderr.splitlines()[-1:]) if happened else None
+    notes = [it for it in came.stderr.splitlines() if not it.startswith(b"strace: ")]
+    return (came.returncode, notes[-1:]) if happened else None
 
 
 def each_disturbance(words, calls, how, files):
