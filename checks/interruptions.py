@@ -102,7 +102,7 @@ def killed_ingest_leaves_what_was_committed():
 
 @test
 def ingest_that_is_asked_to_end_leaves_what_was_committed():
-    expect_whole_sessions(ENDING * 4, 10)
+    expect_whole_sessions(ENDING * 3, 10)
 
 
 @contextmanager

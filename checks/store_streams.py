@@ -2,6 +2,7 @@
 
 import os
 import tempfile
+from dataclasses import replace
 from itertools import combinations
 from random import Random
 
@@ -106,7 +107,7 @@ def input_that_fails_after_some_bytes_leaves_the_store_as_it_was():
 @test
 def output_that_fills_up_has_a_part_of_the_session():
     text, files = Random(33).randbytes(200_000), {}
-    init(files, DEFAULTS)
+    init(files, replace(DEFAULTS, min=3000, max=3000))
     write_files(FOLDER, with_ingest(files, b"n", text))
     for length in (1, 2000, 70_000, 199_999):
         with tempfile.TemporaryFile() as file:
