@@ -185,10 +185,7 @@ fn a_failed_cut_is_not_taken_for_done(rt: HostRuntime) -> Result<(), Fail> {
     let mut shelf = FolderShelf::new(Faulty { rt, plan: &plan }, rt.alloc(), "long")?;
     // The second cut is of a file whose length is known.
     for _ in 0..2 {
-        assert_eq!(rt;
-            shelf.cut(File::Book(0), 3).err(),
-            Some(EdgeFault::Failed)
-        );
+        assert_eq!(rt; shelf.cut(File::Book(0), 3).err(), Some(EdgeFault::Failed));
         assert_eq!(rt; shelf.len(File::Book(0))?, 6);
     }
     shelf.append(File::Book(0), b"g")?;
