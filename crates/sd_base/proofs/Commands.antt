@@ -9,11 +9,11 @@ use Rattle.std.proofs.lemmas.Bool.{cases_Bool, leb-true, and_parts}
 use Rattle.sd_base.specs.Commands.{AreRawParams, HasSessionName, HasNumbersInRange, HasRawParams, IsHow}
 use Rattle.sd_base.specs.Keys.{Key, first_bad_word, is_spelled, number_of, sets_key, value_of, value_or_default}
 use Rattle.sd_base.specs.Names.{IsName, bad_name}
-use Rattle.sd_base.specs.Words.{command_of, default_how, default_params, default_segment, default_workers, params_keys, params_of, session_command_of, unless_bad, polynomial_key, bits_key, target_key, min_key, max_key}
+use Rattle.sd_base.specs.Words.{command_of, default_params, default_segment, default_workers, how_keys, how_of, params_keys, plan_keys, segment_key, workers_key, params_of, session_command_of, unless_bad, polynomial_key, bits_key, target_key, min_key, max_key}
 use Rattle.sd_base.specs.declared.words.BadWords.{BadWords}
 use Rattle.sd_base.specs.declared.words.Command.{Command}
 use Rattle.sd_base.specs.declared.words.Command.TheVariants.{Quiet, Ingest}
-use Rattle.sd_base.specs.declared.words.Quiet.TheVariants.{Plan, Init, List as ListSessions, Restore}
+use Rattle.sd_base.specs.declared.words.Quiet.TheVariants.{Plan, Init, List as ListSessions, Restore, Drop, Refs}
 use Rattle.sd_base.proofs.Names.{IsName_is_no_refusal}
 
 -- ---- values of keys
@@ -41,6 +41,35 @@ found-most key default (Some word) within =
 value-most : (words : List (List ℕ)) (key : Key) (default : ℕ) → default ≤ key.greatest →
     value_or_default words key default ≤ key.greatest
 value-most words key default within = found-most key default (find (sets_key key.name) words) within
+
+-- a value that a text spells is at least the least of its key
+number_of-least : (key : Key) (text : List ℕ) → IfSome (number_of key text) (λ n. key.least ≤ n)
+number_of-least key text =
+    let n = digits_value key.base text in
+    elim (cases_Bool (is_spelled key text && nat_le key.least n && nat_le n key.greatest)) [
+      | inl reads ↦ rw reads (leb-true _ _ (and_parts _ _ (and_parts _ _ reads).0).1)
+      | inr other ↦ rw other tt
+    ]
+
+found-least : (key : Key) (default : ℕ) (found : Option (List ℕ)) → key.least ≤ default →
+    key.least ≤ unwrap_or (option_and_then (λ word. number_of key (value_of word)) found) default
+found-least key default None within = within
+found-least key default (Some word) within =
+    or_default (λ n. key.least ≤ n) (number_of key (value_of word)) default (number_of-least key (value_of word)) within
+
+-- what words set a key to is at least the least of the key
+value-least : (words : List (List ℕ)) (key : Key) (default : ℕ) → key.least ≤ default →
+    key.least ≤ value_or_default words key default
+value-least words key default within = found-least key default (find (sets_key key.name) words) within
+
+-- how a command is carried out by the numbers that words set is in its ranges
+how-fits : (words : List (List ℕ)) → IsHow (how_of words)
+how-fits words = record {
+  workers = (value-least words workers_key default_workers (lit≤ tt), value-most words workers_key default_workers (lit≤ tt));
+  segment = (value-least words segment_key default_segment (lit≤ tt), value-most words segment_key default_segment (lit≤ tt));
+  batch = (lit≤ tt, lit≤ tt);
+  shards = (lit≤ tt, lit≤ tt);
+}
 
 pub params-fit : (words : List (List ℕ)) → AreRawParams (params_of words)
 params-fit words = record {
@@ -80,40 +109,40 @@ module _ (P : Command → Type 0) where
 
   -- what holds of the command of each kind of words holds of the command of all words
   command-keeps :
-      ((words : List (List ℕ)) → P (Quiet (Plan (params_of words) default_workers default_segment))) →
+      ((words : List (List ℕ)) → P (Quiet (Plan (params_of words) (how_of words).workers (how_of words).segment))) →
       ((words : List (List ℕ)) → P (Quiet (Init (params_of words)))) →
-      ((name : List ℕ) → IsName name → P (Ingest name default_how)) → P (Quiet ListSessions) →
-      ((name : List ℕ) → IsName name → P (Quiet (Restore name))) → (words : List (List ℕ)) → IfOk (command_of words) P
-  command-keeps plan init ingest list restore [] = tt
-  command-keeps plan init ingest list restore (word ∷ words) =
+      ((name : List ℕ) (more : List (List ℕ)) → IsName name → P (Ingest name (how_of more))) → P (Quiet ListSessions) →
+      ((name : List ℕ) → IsName name → P (Quiet (Restore name))) →
+      ((name : List ℕ) → IsName name → P (Quiet (Drop name))) → P (Quiet Refs) →
+      (words : List (List ℕ)) → IfOk (command_of words) P
+  command-keeps plan init ingest list restore drop refs [] = tt
+  command-keeps plan init ingest list restore drop refs (word ∷ words) =
       let bad_parameter = first_bad_word params_keys [] 1 words in
-      let planned = Quiet (Plan (params_of words) default_workers default_segment) in
-      either (bytes_eq word (codes "plan")) _ _ (unless_bad-keeps bad_parameter planned (plan words))
+      let planned = Quiet (Plan (params_of words) (how_of words).workers (how_of words).segment) in
+      either (bytes_eq word (codes "plan")) _ _ (unless_bad-keeps (first_bad_word plan_keys [] 1 words) planned (plan words))
       (either (bytes_eq word (codes "init")) _ _
       (unless_bad-keeps bad_parameter (Quiet (Init (params_of words))) (init words))
       (either (bytes_eq word (codes "ingest")) _ _
-      (session_command-keeps [] (λ name more. Ingest name default_how) words (λ name more. ingest name))
+      (session_command-keeps how_keys (λ name more. Ingest name (how_of more)) words ingest)
       (either (bytes_eq word (codes "list")) _ _
       (unless_bad-keeps (first_bad_word [] [] 1 words) (Quiet ListSessions) list)
       (either (bytes_eq word (codes "restore")) _ _
-      (session_command-keeps [] (λ name more. Quiet (Restore name)) words (λ name more. restore name)) tt))))
-
-default_how-in_range : IsHow default_how
-default_how-in_range = record {
-  workers = (lit≤ tt, lit≤ tt);
-  segment = (lit≤ tt, lit≤ tt);
-  batch = (lit≤ tt, lit≤ tt);
-  shards = (lit≤ tt, lit≤ tt);
-}
+      (session_command-keeps [] (λ name more. Quiet (Restore name)) words (λ name more. restore name))
+      (either (bytes_eq word (codes "drop")) _ _
+      (session_command-keeps [] (λ name more. Quiet (Drop name)) words (λ name more. drop name))
+      (either (bytes_eq word (codes "refs")) _ _
+      (unless_bad-keeps (first_bad_word [] [] 1 words) (Quiet Refs) refs) tt))))))
 
 pub numbers_in_range : (words : List (List ℕ)) → IfOk (command_of words) HasNumbersInRange
 numbers_in_range =
-    command-keeps HasNumbersInRange (λ words. (default_how-in_range.workers, default_how-in_range.segment)) (λ words. tt)
-    (λ name is_name. default_how-in_range) tt (λ name is_name. tt)
+    command-keeps HasNumbersInRange (λ words. ((how-fits words).workers, (how-fits words).segment)) (λ words. tt)
+    (λ name more is_name. how-fits more) tt (λ name is_name. tt) (λ name is_name. tt) tt
 
 pub names_of_sessions : (words : List (List ℕ)) → IfOk (command_of words) HasSessionName
 names_of_sessions =
-    command-keeps HasSessionName (λ words. tt) (λ words. tt) (λ name is_name. is_name) tt (λ name is_name. is_name)
+    command-keeps HasSessionName (λ words. tt) (λ words. tt) (λ name more is_name. is_name) tt (λ name is_name. is_name)
+    (λ name is_name. is_name) tt
 
 pub raw_params : (words : List (List ℕ)) → IfOk (command_of words) HasRawParams
-raw_params = command-keeps HasRawParams params-fit params-fit (λ name is_name. tt) tt (λ name is_name. tt)
+raw_params =
+    command-keeps HasRawParams params-fit params-fit (λ name more is_name. tt) tt (λ name is_name. tt) (λ name is_name. tt) tt

@@ -66,7 +66,7 @@ later-ingests P (ingested name chunks) events all = all.1
 later-ingests P (dropped k) events all = all
 
 -- sessions only become more
-length-with_drop : (xs : List StoredSession) (k : ℕ) → length (with_drop xs k) ≡ length xs
+pub length-with_drop : (xs : List StoredSession) (k : ℕ) → length (with_drop xs k) ≡ length xs
 length-with_drop [] k = refl
 length-with_drop (x ∷ xs) zero = refl
 length-with_drop (x ∷ xs) (suc k) = ap suc (length-with_drop xs k)
@@ -263,7 +263,7 @@ pub sessions-book : (name_of : List ℕ → List ℕ) (state : State) →
 sessions-book name_of state = followed-records name_of (stored_chunks state) state.events []
 
 -- the chunks of the sessions of a state are those that its events place
-chunks-placed : (state : State) → session_chunks (sessions_in state) ≡ placed_chunks state.events
+pub chunks-placed : (state : State) → session_chunks (sessions_in state) ≡ placed_chunks state.events
 chunks-placed state = session_chunks-fold state.events []
 
 lengths-named : (name_of : List ℕ → List ℕ) (chunks : List (List ℕ)) → map (λ (c : NewChunk). c.length) (map (named name_of) chunks) ≡ map length chunks

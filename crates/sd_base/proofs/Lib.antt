@@ -31,6 +31,8 @@ pub mod Files
 pub mod StateBooks
 -- files that hold a lawful state open as its book
 pub mod HeldStates
+-- the reference counts of a state are those of its book
+pub mod References
 -- a run leads from a lawful state to a lawful state, and gives back what was taken in
 pub mod Passes
 -- the worked stores are lawful states

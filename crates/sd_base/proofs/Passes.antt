@@ -1,19 +1,20 @@
 -- A run leads from a lawful state to a lawful state, and `restore` gives back what was taken in.
-use Rattle.std.proofs.Common.{◌≡◌, ◌≢◌, inl, inr, ℕ, ◌+◌, ◌^◌, ◌<◌, ◌≤◌, ltb, Bool, true, false, List, [], ◌∷◌, ◌++◌, length, Option, Some, None, IfSome, Result, Ok, Err, IfOk, refl, ap, sym, subst, ◌∙◌, arith, length-append}
+use Rattle.std.proofs.Common.{◌≡◌, ◌≢◌, inl, inr, ℕ, zero, suc, ◌+◌, ◌^◌, ◌<◌, ◌≤◌, ltb, Bool, true, false, List, [], ◌∷◌, ◌++◌, length, Option, Some, None, IfSome, Result, Ok, Err, IfOk, refl, ap, sym, subst, ◌∙◌, arith, length-append, append-nil}
 use Rattle.std.specs.Prelude.{◌&&◌, is_some, if◌then◌else◌, option_map, unwrap_or}
-use Rattle.std.specs.List.{All, concat, fold, position, position_or_len, slice_get}
+use Rattle.std.specs.List.{All, AllByRecursion, concat, fold, position, position_or_len, slice_get}
 use Rattle.std.specs.Str.{bytes_eq}
-use Rattle.std.proofs.lemmas.Bool.{cases_Bool, eq-eqb, lt-ltb, ltb-false, leb-false}
-use Rattle.std.proofs.lemmas.List.Elements.{All-append, All-from_recursion}
+use Rattle.std.proofs.lemmas.Bool.{cases_Bool, eq-eqb, lt-ltb, ltb-true, ltb-false, leb-false, and_parts}
+use Rattle.std.proofs.lemmas.List.Elements.{All-append, All-from_recursion, recursion_from_All}
 use Rattle.std.proofs.lemmas.List.Folds.{position_or_len_push}
 use Rattle.std.proofs.lemmas.List.Sums.{fold-append}
 use Rattle.std.proofs.lemmas.Slice.Eq.{bytes_eq-Decides}
 use Rattle.sd_base.specs.Commands.{HasSessionName, HasRawParams}
 use Rattle.sd_base.specs.Cutting.{chunks_of}
+use Rattle.sd_base.specs.Distinct.{distinct}
 use Rattle.sd_base.specs.Names.{IsName}
-use Rattle.sd_base.specs.OnePass.{Pass, pass_of, pass_of_command, pass_of_init, pass_of_plan, pass_of_restore, refusal, refusal_of_ingest, success, unless_refused}
+use Rattle.sd_base.specs.OnePass.{Pass, pass_of, pass_of_command, pass_of_drop, pass_of_init, pass_of_plan, pass_of_restore, refusal, refusal_of_ingest, success, unless_refused}
 use Rattle.sd_base.specs.Parameters.{IsValid, bad_parameter}
-use Rattle.sd_base.specs.States.{Event, ingested, IsCutting, IsLawful, MayAllHappen, MayHappen, State, StoredSession, bytes_of_session, followed_by_event, live_session_named, new_state, placed_chunks, sessions_in, stored_chunks, with_event, with_session}
+use Rattle.sd_base.specs.States.{Event, dropped, ingested, IsCutting, IsLawful, MayAllHappen, MayHappen, State, StoredSession, bytes_of_session, followed_by_event, is_live_in, live_session_named, new_state, placed_chunks, sessions_in, stored_chunks, with_drop, with_event, with_session}
 use Rattle.sd_base.specs.declared.limits.TheConstants.{MAX_CHUNKS, MAX_INPUT, MAX_PLACES, MAX_SESSIONS}
 use Rattle.sd_base.specs.declared.outcome.Outcome.{Outcome}
 use Rattle.sd_base.specs.declared.outcome.Outcome.TheVariants.{Done}
@@ -22,9 +23,11 @@ use Rattle.sd_base.specs.declared.raw_params.RawParams.{RawParams}
 use Rattle.sd_base.specs.declared.words.BadWords.{BadWords as Refusal}
 use Rattle.sd_base.specs.declared.words.Command.{Command}
 use Rattle.sd_base.specs.declared.words.Command.TheVariants.{Quiet, Ingest}
-use Rattle.sd_base.specs.declared.words.Quiet.TheVariants.{Plan, Init, List as ListSessions, Restore}
+use Rattle.sd_base.specs.declared.words.Quiet.TheVariants.{Plan, Init, List as ListSessions, Restore, Drop, Refs}
 use Rattle.sd_base.proofs.Covering.{concat-chunks_of}
+use Rattle.sd_base.proofs.HeldStates.{length-with_drop}
 use Rattle.sd_base.proofs.Ranges.{IsValid-from_none}
+use Rattle.sd_base.proofs.States.{placed_chunks-append}
 
 -- ---- one more ingest
 
@@ -130,6 +133,72 @@ lawful-with_session state name input lawful is_name may =
     lawful-ingested state name (chunks_of state.params input) lawful is_name may.free (ap (chunks_of state.params) (sym joined))
     (omega (arith, ap length joined, may.short)) may.few_sessions may.few_places may.few_chunks
 
+-- ---- one more drop
+
+-- what holds of the chunks of each session holds if one of them is dropped
+all-dropped : (P : List (List ℕ) → Type 0) (sessions : List StoredSession) (k : ℕ) →
+    AllByRecursion (λ (s : StoredSession). P s.chunks) sessions → AllByRecursion (λ (s : StoredSession). P s.chunks) (with_drop sessions k)
+all-dropped P [] k all = tt
+all-dropped P (session ∷ sessions) zero all = all
+all-dropped P (session ∷ sessions) (suc k) all = (all.0, all-dropped P sessions k all.1)
+
+kept-dropped : (P : List (List ℕ) → Type 0) (sessions : List StoredSession) (k : ℕ) →
+    All (λ (s : StoredSession). P s.chunks) sessions → All (λ (s : StoredSession). P s.chunks) (with_drop sessions k)
+kept-dropped P sessions k all =
+    All-from_recursion (λ (s : StoredSession). P s.chunks) (with_drop sessions k)
+    (all-dropped P sessions k (recursion_from_All (λ (s : StoredSession). P s.chunks) sessions all))
+
+pub sessions-dropped : (state : State) (k : ℕ) → sessions_in (followed_by_event state (dropped k)) ≡ with_drop (sessions_in state) k
+sessions-dropped state k = fold-append with_event [] state.events (dropped k ∷ [])
+
+-- a drop places no chunk
+pub placed-dropped : (state : State) (k : ℕ) → placed_chunks (followed_by_event state (dropped k)).events ≡ placed_chunks state.events
+placed-dropped state k =
+    placed_chunks-append state.events (dropped k ∷ []) ∙ append-nil (placed_chunks state.events)
+
+-- the state with a live session dropped is lawful
+pub lawful-dropped : (state : State) (k : ℕ) → IsLawful state → is_live_in (sessions_in state) k ≡ true →
+    IsLawful (followed_by_event state (dropped k))
+lawful-dropped state k lawful live =
+    let sessions = sessions-dropped state k in
+    let placed = placed-dropped state k in
+    let session_count = ap length sessions ∙ length-with_drop (sessions_in state) k in
+    record {
+      params = lawful.params;
+      generation = lawful.generation;
+      events = may-one_more state.events [] (dropped k) lawful.events live;
+      cut = subst (All (λ s. IsCutting state.params s.chunks)) (sym sessions)
+          (kept-dropped (IsCutting state.params) (sessions_in state) k lawful.cut);
+      bytes = subst (All (λ s. length (bytes_of_session s) < 2 ^ 32)) (sym sessions)
+          (kept-dropped (λ chunks. length (concat chunks) < 2 ^ 32) (sessions_in state) k lawful.bytes);
+      sessions = omega (arith, session_count, lawful.sessions);
+      places = subst (λ chunks. length chunks ≤ MAX_PLACES) (sym placed) lawful.places;
+      chunks = subst (λ chunks. length (distinct chunks) ≤ MAX_CHUNKS) (sym placed) lawful.chunks;
+    }
+
+-- at the first place that passes, if it is not the end, there is a live session
+live-at : (sessions : List StoredSession) (name : List ℕ) →
+    let p : StoredSession → Bool = λ s. s.live && bytes_eq s.name name in
+    position_or_len p sessions < length sessions → is_live_in sessions (position_or_len p sessions) ≡ true
+live-at [] name below = absurd (omega (arith, below))
+live-at (session ∷ sessions) name below = elim (cases_Bool (session.live && bytes_eq session.name name)) [
+  | inl here ↦ rw here (and_parts session.live (bytes_eq session.name name) here).0
+  | inr other ↦
+      let p : StoredSession → Bool = λ s. s.live && bytes_eq s.name name in
+      let next : 1 + position_or_len p sessions ≡ suc (position_or_len p sessions) = omega arith in
+      let later = rw other at below in
+      rw other (ap (is_live_in (session ∷ sessions)) next ∙ live-at sessions name (omega (arith, later)))
+]
+
+-- a session that is found by its name is live
+pub found-live : (sessions : List StoredSession) (name : List ℕ) → IfSome (live_session_named sessions name) (λ k. is_live_in sessions k ≡ true)
+found-live sessions name =
+    let p : StoredSession → Bool = λ s. s.live && bytes_eq s.name name in
+    elim (cases_Bool (ltb (position_or_len p sessions) (length sessions))) [
+      | inl below ↦ rw below (live-at sessions name (ltb-true _ _ below))
+      | inr past ↦ rw past tt
+    ]
+
 -- ---- every run
 
 plan-leaves : (flaw : Option BadParameter) (raw : RawParams) (state : Option State) (input : List ℕ) →
@@ -143,6 +212,11 @@ plan-leaves None raw state input = elim (cases_Bool (ltb MAX_INPUT (length input
 restore-leaves : (found : Option ℕ) (state : State) → (pass_of_restore found state).after ≡ Some state
 restore-leaves None state = refl
 restore-leaves (Some k) state = refl
+
+lawful-drop : (name : List ℕ) (found : Option ℕ) (state : State) → IsLawful state →
+    IfSome found (λ k. is_live_in (sessions_in state) k ≡ true) → IfSome (pass_of_drop name found state).after IsLawful
+lawful-drop name None state lawful live = lawful
+lawful-drop name (Some k) state lawful live = lawful-dropped state k lawful live
 
 lawful-init : (flaw : Option BadParameter) (raw : RawParams) (state : Option State) →
     (flaw ≡ None → IsValid raw) → IfSome state IsLawful → IfSome (pass_of_init flaw raw state).after IsLawful
@@ -171,6 +245,9 @@ lawful-after (Ok (Quiet ListSessions)) named fits (Some state) input lawful = la
 lawful-after (Ok (Quiet (Restore name))) named fits (Some state) input lawful =
     let found = live_session_named (sessions_in state) name in
     subst (λ after. IfSome after IsLawful) (sym (restore-leaves found state)) lawful
+lawful-after (Ok (Quiet (Drop name))) named fits (Some state) input lawful =
+    lawful-drop name (live_session_named (sessions_in state) name) state lawful (found-live (sessions_in state) name)
+lawful-after (Ok (Quiet Refs)) named fits (Some state) input lawful = lawful
 
 -- ---- runs that are not done
 
@@ -198,6 +275,11 @@ unfolding IsRefusal
 restore-stays None state undone = refl
 restore-stays (Some k) state undone = absurd (undone refl)
 
+drop-stays : (name : List ℕ) (found : Option ℕ) (state : State) → IsRefusal (Some state) (pass_of_drop name found state)
+unfolding IsRefusal
+drop-stays name None state undone = refl
+drop-stays name (Some k) state undone = absurd (undone refl)
+
 ingest-stays : (outcome : Option Outcome) (state : State) (pass : Pass) → pass.outcome ≡ Done →
     IsRefusal (Some state) (unless_refused outcome (Some state) pass)
 unfolding IsRefusal
@@ -217,6 +299,11 @@ state-stays (Ok (Quiet ListSessions)) (Some state) input undone = absurd (undone
 state-stays (Ok (Quiet (Restore name))) None input undone = refl
 state-stays (Ok (Quiet (Restore name))) (Some state) input undone =
     restore-stays (live_session_named (sessions_in state) name) state undone
+state-stays (Ok (Quiet (Drop name))) None input undone = refl
+state-stays (Ok (Quiet (Drop name))) (Some state) input undone =
+    drop-stays name (live_session_named (sessions_in state) name) state undone
+state-stays (Ok (Quiet Refs)) None input undone = refl
+state-stays (Ok (Quiet Refs)) (Some state) input undone = absurd (undone refl)
 
 -- ---- what was taken in
 

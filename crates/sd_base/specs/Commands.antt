@@ -5,7 +5,7 @@ use Rattle.sd_base.specs.Names.{IsName}
 use Rattle.sd_base.specs.declared.how.How.{How}
 use Rattle.sd_base.specs.declared.limits.TheConstants.{MAX_WORKERS, MAX_SEGMENT, MIN_BATCH, MAX_BATCH, MAX_SHARDS}
 use Rattle.sd_base.specs.declared.raw_params.RawParams.{RawParams}
-use Rattle.sd_base.specs.declared.words.Quiet.TheVariants.{Plan, Init, List, Restore}
+use Rattle.sd_base.specs.declared.words.Quiet.TheVariants.{Plan, Init, List, Restore, Drop, Refs}
 use Rattle.sd_base.specs.declared.words.Command.{Command}
 use Rattle.sd_base.specs.declared.words.Command.TheVariants.{Quiet, Ingest}
 
@@ -30,6 +30,8 @@ HasNumbersInRange (Quiet (Plan raw workers segment)) = AreWorkers workers × IsS
 HasNumbersInRange (Quiet (Init raw)) = ⊤
 HasNumbersInRange (Quiet List) = ⊤
 HasNumbersInRange (Quiet (Restore name)) = ⊤
+HasNumbersInRange (Quiet (Drop name)) = ⊤
+HasNumbersInRange (Quiet Refs) = ⊤
 HasNumbersInRange (Ingest name how) = IsHow how
 
 -- the name in a command, if it has one, is that of a session
@@ -38,6 +40,8 @@ HasSessionName (Quiet (Plan raw workers segment)) = ⊤
 HasSessionName (Quiet (Init raw)) = ⊤
 HasSessionName (Quiet List) = ⊤
 HasSessionName (Quiet (Restore name)) = IsName name
+HasSessionName (Quiet (Drop name)) = IsName name
+HasSessionName (Quiet Refs) = ⊤
 HasSessionName (Ingest name how) = IsName name
 
 -- the numbers fit a `RawParams`
@@ -54,4 +58,6 @@ HasRawParams (Quiet (Plan raw workers segment)) = AreRawParams raw
 HasRawParams (Quiet (Init raw)) = AreRawParams raw
 HasRawParams (Quiet List) = ⊤
 HasRawParams (Quiet (Restore name)) = ⊤
+HasRawParams (Quiet (Drop name)) = ⊤
+HasRawParams (Quiet Refs) = ⊤
 HasRawParams (Ingest name how) = ⊤

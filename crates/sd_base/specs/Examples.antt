@@ -271,6 +271,24 @@ pub command_of-keys :
     ≡ Ok (Quiet (Plan (small_params 1) 4 65536))
 command_of-keys = refl
 
+pub command_of-plan_by_workers :
+    command_of (codes "plan" ∷ codes "segment=47" ∷ codes "bits=9" ∷ codes "workers=1" ∷ [])
+    ≡ Ok (Quiet (Plan (record default_params { bits = 9 }) 1 47))
+command_of-plan_by_workers = refl
+
+pub command_of-65_workers : command_of (codes "plan" ∷ codes "workers=65" ∷ []) ≡ bad_word Value 1
+command_of-65_workers = refl
+
+-- a key that an earlier word has is refused before its value is read
+pub command_of-workers_twice : command_of (codes "plan" ∷ codes "workers=2" ∷ codes "workers=99" ∷ []) ≡ bad_word Twice 2
+command_of-workers_twice = refl
+
+pub command_of-no_bytes_of_a_segment : command_of (codes "plan" ∷ codes "segment=0" ∷ []) ≡ bad_word Value 1
+command_of-no_bytes_of_a_segment = refl
+
+pub command_of-a_segment_too_long : command_of (codes "plan" ∷ codes "segment=268435457" ∷ []) ≡ bad_word Value 1
+command_of-a_segment_too_long = refl
+
 pub command_of-init :
     command_of
     (codes "init" ∷ codes "polynomial=8000000000000001" ∷ codes "target=0" ∷ codes "min=64" ∷ codes "max=256" ∷ [])
@@ -301,9 +319,21 @@ command_of-ingest_leading_dot = refl
 pub command_of-ingest_two_bad_words : command_of (codes "ingest" ∷ codes ".x" ∷ codes "y" ∷ []) ≡ bad_word NoName 1
 command_of-ingest_two_bad_words = refl
 
--- no key of `ingest` is there yet
-pub command_of-ingest_with_workers : command_of (codes "ingest" ∷ codes "a" ∷ codes "workers=2" ∷ []) ≡ bad_word NoKey 2
-command_of-ingest_with_workers = refl
+-- the keys of how a command is carried out come in any order
+pub command_of-ingest_with_keys :
+    command_of (codes "ingest" ∷ codes "a" ∷ codes "segment=268435456" ∷ codes "workers=64" ∷ [])
+    ≡ Ok (Ingest (codes "a") (record default_how { workers = 64; segment = 268435456 }))
+command_of-ingest_with_keys = refl
+
+pub command_of-ingest_with_no_workers : command_of (codes "ingest" ∷ codes "a" ∷ codes "workers=0" ∷ []) ≡ bad_word Value 2
+command_of-ingest_with_no_workers = refl
+
+-- two keys of `ingest` are not there yet
+pub command_of-ingest_with_batch : command_of (codes "ingest" ∷ codes "a" ∷ codes "batch=65536" ∷ []) ≡ bad_word NoKey 2
+command_of-ingest_with_batch = refl
+
+pub command_of-ingest_with_bits : command_of (codes "ingest" ∷ codes "a" ∷ codes "bits=9" ∷ []) ≡ bad_word NoKey 2
+command_of-ingest_with_bits = refl
 
 pub command_of-list : command_of (codes "list" ∷ []) ≡ Ok (Quiet ListSessions)
 command_of-list = refl

@@ -28,6 +28,8 @@ pub mod Settings
 pub mod Stores
 -- the book of a state
 pub mod StateBooks
+-- how often live sessions name each chunk
+pub mod References
 -- the verdict of opening a store
 pub mod Opening
 -- words of the form KEY=VALUE
@@ -38,7 +40,7 @@ pub mod Words
 pub mod Commands
 -- the texts that commands print
 pub mod Texts
--- the rows of `list`
+-- the rows of `list` and of `refs`
 pub mod Rows
 -- the outcome and the text of a run
 pub mod OnePass

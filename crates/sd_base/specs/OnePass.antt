@@ -4,15 +4,15 @@
 use Rattle.std.specs.Prelude.{ℕ, nat_le, nat_lt, List, [], length, Option, Some, None, is_some, Result, Ok, Err, if◌then◌else◌}
 use Rattle.sd_base.specs.Cutting.{chunks_of}
 use Rattle.sd_base.specs.Parameters.{bad_parameter}
-use Rattle.sd_base.specs.Rows.{rows_of_state}
-use Rattle.sd_base.specs.States.{State, bytes_of_number, live_session_named, new_state, placed_chunks, sessions_in, stored_chunks, with_session}
-use Rattle.sd_base.specs.Texts.{ingest_text, list_text, plan_text, ready_text}
+use Rattle.sd_base.specs.Rows.{reference_rows_of_state, rows_of_state}
+use Rattle.sd_base.specs.States.{State, bytes_of_number, dropped, followed_by_event, live_session_named, new_state, placed_chunks, places_of_number, sessions_in, stored_chunks, with_session}
+use Rattle.sd_base.specs.Texts.{dropped_text, ingest_text, list_text, plan_text, ready_text, refs_text}
 use Rattle.sd_base.specs.Words.{command_of}
 use Rattle.sd_base.specs.declared.limits.TheConstants.{MAX_CHUNKS, MAX_INPUT, MAX_PLACES, MAX_SESSIONS}
 use Rattle.sd_base.specs.declared.params.BadParams.{BadParams as BadParameter}
 use Rattle.sd_base.specs.declared.raw_params.RawParams.{RawParams}
 use Rattle.sd_base.specs.declared.words.BadWords.{BadWords as Refusal}
-use Rattle.sd_base.specs.declared.words.Quiet.TheVariants.{Plan, Init, List as ListSessions, Restore}
+use Rattle.sd_base.specs.declared.words.Quiet.TheVariants.{Plan, Init, List as ListSessions, Restore, Drop, Refs}
 use Rattle.sd_base.specs.declared.words.Command.{Command}
 use Rattle.sd_base.specs.declared.words.Command.TheVariants.{Quiet, Ingest}
 use Rattle.sd_base.specs.declared.outcome.Outcome.{Outcome}
@@ -89,6 +89,16 @@ abbrev pub pass_of_restore : Option ℕ → State → Pass
 pass_of_restore None state = refusal (Some state) NoSession
 pass_of_restore (Some k) state = success (Some state) (bytes_of_number state k)
 
+-- `drop` in a store, from the number of the live session of its name, if there is one
+abbrev pub pass_of_drop : List ℕ → Option ℕ → State → Pass
+pass_of_drop name None state = refusal (Some state) NoSession
+pass_of_drop name (Some k) state =
+    success (Some (followed_by_event state (dropped k))) (dropped_text name (places_of_number state k))
+
+-- `refs` in a store
+abbrev pub pass_of_refs : State → Pass
+pass_of_refs state = success (Some state) (refs_text (reference_rows_of_state state))
+
 -- a command on a state and an input
 abbrev pub pass_of_command : Command → Option State → List ℕ → Pass
 pass_of_command (Quiet (Plan params _ _)) state input = pass_of_plan (bad_parameter params) params state input
@@ -97,6 +107,9 @@ pass_of_command (Ingest name _) state input = in_store (pass_of_ingest name inpu
 pass_of_command (Quiet ListSessions) state input = in_store pass_of_list state
 pass_of_command (Quiet (Restore name)) state input =
     in_store (λ store. pass_of_restore (live_session_named (sessions_in store) name) store) state
+pass_of_command (Quiet (Drop name)) state input =
+    in_store (λ store. pass_of_drop name (live_session_named (sessions_in store) name) store) state
+pass_of_command (Quiet Refs) state input = in_store pass_of_refs state
 
 -- what the words name, on a state and an input
 abbrev pub pass_of : Result Command Refusal → Option State → List ℕ → Pass

@@ -1,11 +1,13 @@
 -- Laws of states and of the files that hold them, in the words of the subject.
 use Rattle.std.specs.Prelude.{◌≡◌, ◌≢◌, ℕ, List, [], ◌∷◌, ◌++◌, length, map, slice_index_or, Option, Some, None, IfSome}
 use Rattle.std.specs.List.{All}
+use Rattle.sha2.specs.Sha256.{sha256}
 use Rattle.sd_base.specs.Distinct.{is_among, distinct, new_chunks, AreDifferent}
 use Rattle.sd_base.specs.Packing.{packing, container_sizes}
 use Rattle.sd_base.specs.Opening.{OpenAs}
 use Rattle.sd_base.specs.OnePass.{one_pass, pass_of_command, refusal, refusal_of_ingest, success}
-use Rattle.sd_base.specs.Rows.{rows_of_book, rows_of_state}
+use Rattle.sd_base.specs.References.{references_in_book, references_in_state}
+use Rattle.sd_base.specs.Rows.{reference_rows_of_book, reference_rows_of_state, rows_of_book, rows_of_state}
 use Rattle.sd_base.specs.StateBooks.{book_of_state}
 use Rattle.sd_base.specs.States.{Event, IsLawful, State, placed_chunks, stored_chunks, recipe_of, sessions_in, followed_by_event, with_session}
 use Rattle.sd_base.specs.Stores.{AreClean, GivesNames, HoldState, files_of, record_of, records_of}
@@ -64,6 +66,17 @@ EachStateHasItsFiles = (name_of : List ℕ → List ℕ) (state : State) → Are
 abbrev pub RowsAreThoseOfTheBook : Type 0
 RowsAreThoseOfTheBook =
     (name_of : List ℕ → List ℕ) (state : State) → rows_of_book (book_of_state name_of state) ≡ rows_of_state state
+
+-- the reference counts are the same from a state and from its book
+abbrev pub ReferencesAreThoseOfTheBook : Type 0
+ReferencesAreThoseOfTheBook =
+    (name_of : List ℕ → List ℕ) (state : State) (i : ℕ) →
+    references_in_book (book_of_state name_of state).sessions i ≡ references_in_state state i
+
+-- the rows of `refs` are the same from a state and from its book
+abbrev pub ReferenceRowsAreThoseOfTheBook : Type 0
+ReferenceRowsAreThoseOfTheBook =
+    (state : State) → reference_rows_of_book (book_of_state sha256 state) ≡ reference_rows_of_state state
 
 -- files that hold a lawful state open as its book
 abbrev pub HeldStatesOpen : Type 0

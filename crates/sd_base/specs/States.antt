@@ -117,6 +117,10 @@ new_state params = record { params = params; generation = 0; events = [] }
 abbrev pub bytes_of_number : State → ℕ → List ℕ
 bytes_of_number state k = unwrap_or (option_map bytes_of_session (slice_get (sessions_in state) k)) []
 
+-- the number of places of session k, or 0 if there is no such session
+abbrev pub places_of_number : State → ℕ → ℕ
+places_of_number state k = unwrap_or (option_map (λ session. length session.chunks) (slice_get (sessions_in state) k)) 0
+
 -- the state after one more event
 abbrev pub followed_by_event : State → Event → State
 followed_by_event state event = record state { events = state.events ++ event ∷ [] }

@@ -4,18 +4,19 @@
 use Rattle.std.specs.Prelude.{◌≡◌, ℕ, List, [], ◌∷◌, ◌++◌, length, map, drop, replicate, codes, Some, None}
 use Rattle.std.specs.Int.Count.{count_leading_zeros}
 use Rattle.std.specs.Fmt.{decimal, digits}
-use Rattle.std.specs.List.{range_with_len}
+use Rattle.std.specs.List.{concat, range_with_len}
 use Rattle.std.proofs.Common.{refl}
 use Rattle.sha2.specs.Sha256.{sha256, digest_bytes, hash_after, compress, rounds, schedule, first_words}
 use Rattle.sd_base.specs.Cutting.{chunks_of, next_cut, cuts_within}
 use Rattle.sd_base.specs.Examples.{small_params}
 use Rattle.sd_base.specs.OnePass.{one_pass, refusal, success}
 use Rattle.sd_base.specs.Records.{ingest_body, spelling_of}
-use Rattle.sd_base.specs.Rows.{rows_of_state}
+use Rattle.sd_base.specs.References.{references_in_state}
+use Rattle.sd_base.specs.Rows.{reference_rows_of_state, rows_of_state}
 use Rattle.sd_base.specs.Settings.{settings_of}
 use Rattle.sd_base.specs.States.{ingested, dropped, State, stored_chunks, live_sessions}
 use Rattle.sd_base.specs.Stores.{records_of, files_of}
-use Rattle.sd_base.specs.Texts.{ingested_text, list_text, ready_text}
+use Rattle.sd_base.specs.Texts.{dropped_text, ingested_text, list_text, printed_name, ready_text}
 use Rattle.sd_base.specs.declared.limits.TheConstants.{COMMIT_BYTE, MAX_GENERATION, OPEN_HEAD_LEN, SETTINGS_LEN}
 use Rattle.sd_base.specs.declared.outcome.Outcome.TheVariants.{BadWords, BadParams, NoStore, StoreThere, NameTaken, NoSession, TooManySessions}
 use Rattle.sd_base.specs.declared.params.BadParams.TheVariants.{Max}
@@ -103,6 +104,38 @@ live_sessions-after_a_drop = refl
 pub stored_chunks-after_a_drop : stored_chunks once_dropped ≡ replicate 64 0 ∷ replicate 8 0 ∷ []
 stored_chunks-after_a_drop = refl
 
+-- the reference counts: each of `a` and `b` has the first chunk at three places and the second at
+-- one
+pub reference_rows-twice : reference_rows_of_state twice ≡
+    record { number = 0; count = 6; length = 64; name = sha256 (replicate 64 0) }
+    ∷ record { number = 1; count = 2; length = 8; name = sha256 (replicate 8 0) } ∷ []
+reference_rows-twice = refl
+
+pub reference_rows-after_a_drop : reference_rows_of_state once_dropped ≡
+    record { number = 0; count = 3; length = 64; name = sha256 (replicate 64 0) }
+    ∷ record { number = 1; count = 1; length = 8; name = sha256 (replicate 8 0) } ∷ []
+reference_rows-after_a_drop = refl
+
+-- a chunk that no live session names stays, with the count 0
+abbrev pub twice_dropped : State
+twice_dropped = record {
+  params = small_params 0;
+  generation = 0;
+  events = ingested (codes "a") zeros_cut ∷ ingested (codes "b") zeros_cut ∷ dropped 0 ∷ dropped 1 ∷ [];
+}
+
+pub reference_rows-after_both_drops : reference_rows_of_state twice_dropped ≡
+    record { number = 0; count = 0; length = 64; name = sha256 (replicate 64 0) }
+    ∷ record { number = 1; count = 0; length = 8; name = sha256 (replicate 8 0) } ∷ []
+reference_rows-after_both_drops = refl
+
+pub references-of_no_chunk : references_in_state twice 2 ≡ None
+references-of_no_chunk = refl
+
+pub text-dropped : dropped_text (codes "a") 4 ≡ codes "dropped a 4 places" ++ 10 ∷ []
+unfolding digits
+text-dropped = refl
+
 -- the constants of the head
 pub MAX_GENERATION-is : MAX_GENERATION ≡ 65535
 MAX_GENERATION-is = refl
@@ -179,6 +212,34 @@ pub one_pass-restore_after_a_drop :
     one_pass (codes "restore" ∷ codes "a" ∷ []) (Some once_dropped) [] ≡ refusal (Some once_dropped) NoSession
 one_pass-restore_after_a_drop = refl
 
+-- a drop ends the session of its name and prints its places; once more, there is no such session
+pub one_pass-drop :
+    one_pass (codes "drop" ∷ codes "a" ∷ []) (Some twice) [] ≡ success (Some once_dropped) (codes "dropped a 4 places" ++ 10 ∷ [])
+unfolding digits
+one_pass-drop = refl
+
+pub one_pass-drop_again :
+    one_pass (codes "drop" ∷ codes "a" ∷ []) (Some once_dropped) [] ≡ refusal (Some once_dropped) NoSession
+one_pass-drop_again = refl
+
+pub one_pass-drop_both :
+    one_pass (codes "drop" ∷ codes "b" ∷ []) (Some once_dropped) [] ≡ success (Some twice_dropped) (codes "dropped b 4 places" ++ 10 ∷ [])
+unfolding digits
+one_pass-drop_both = refl
+
+-- a line for each stored chunk
+pub one_pass-refs :
+    one_pass (codes "refs" ∷ []) (Some twice) []
+    ≡ success (Some twice) (concat ((codes "0 6 64 " ++ printed_name (replicate 64 0) ++ 10 ∷ []) ∷ (codes "1 2 8 " ++ printed_name (replicate 8 0) ++ 10 ∷ []) ∷ []))
+unfolding digits
+one_pass-refs = refl
+
+pub one_pass-refs_after_both_drops :
+    one_pass (codes "refs" ∷ []) (Some twice_dropped) []
+    ≡ success (Some twice_dropped) (concat ((codes "0 0 64 " ++ printed_name (replicate 64 0) ++ 10 ∷ []) ∷ (codes "1 0 8 " ++ printed_name (replicate 8 0) ++ 10 ∷ []) ∷ []))
+unfolding digits
+one_pass-refs_after_both_drops = refl
+
 -- an empty input is a session with no chunk
 abbrev pub one_empty : State
 one_empty = record { params = small_params 0; generation = 0; events = ingested (codes "e") [] ∷ [] }
@@ -206,6 +267,12 @@ one_pass-list_in_no_store = refl
 
 pub one_pass-restore_from_no_store : one_pass (codes "restore" ∷ codes "a" ∷ []) None [] ≡ refusal None NoStore
 one_pass-restore_from_no_store = refl
+
+pub one_pass-drop_in_no_store : one_pass (codes "drop" ∷ codes "a" ∷ []) None [] ≡ refusal None NoStore
+one_pass-drop_in_no_store = refl
+
+pub one_pass-refs_in_no_store : one_pass (codes "refs" ∷ []) None [] ≡ refusal None NoStore
+one_pass-refs_in_no_store = refl
 
 -- bad words are refused before the store is looked at
 pub one_pass-bad_name :

@@ -56,3 +56,23 @@ list_line row =
 -- the text of `list`: a line for each row, in order
 abbrev pub list_text : List SessionRow → List ℕ
 list_text rows = flat_map list_line rows
+
+-- the text of `drop`: the name of the dropped session and the number of its places
+abbrev pub dropped_text : List ℕ → ℕ → List ℕ
+dropped_text name places = codes "dropped " ++ name ++ 32 ∷ [] ++ decimal places ++ codes " places" ++ 10 ∷ []
+
+-- a stored chunk as `refs` shows it: its number, its reference count, its length and its name
+pub record ReferenceRow : Type 0 where
+  pub number : ℕ
+  pub count : ℕ
+  pub length : ℕ
+  pub name : List ℕ
+
+abbrev pub refs_line : ReferenceRow → List ℕ
+refs_line row =
+    decimal row.number ++ 32 ∷ [] ++ decimal row.count ++ 32 ∷ [] ++ decimal row.length ++ 32 ∷ []
+    ++ encode_lower row.name ++ 10 ∷ []
+
+-- the text of `refs`: a line for each row, in order
+abbrev pub refs_text : List ReferenceRow → List ℕ
+refs_text rows = flat_map refs_line rows

@@ -1,14 +1,15 @@
 -- The words of the command line, as lists of bytes, and the command that they name.
-use Rattle.std.specs.Prelude.{ℕ, ◌-◌, ◌^◌, List, [], ◌∷◌, codes, Option, Some, None, is_some, Result, Ok, Err, if◌then◌else◌}
+use Rattle.std.specs.Prelude.{ℕ, ◌-◌, ◌^◌, List, [], ◌∷◌, ◌++◌, codes, Option, Some, None, is_some, Result, Ok, Err, if◌then◌else◌}
 use Rattle.std.specs.Str.{bytes_eq}
 use Rattle.sd_base.specs.Keys.{Key, decimal_key, first_bad_word, value_or_default}
 use Rattle.sd_base.specs.Names.{bad_name}
 use Rattle.sd_base.specs.declared.how.How.{How}
+use Rattle.sd_base.specs.declared.limits.TheConstants.{MAX_SEGMENT, MAX_WORKERS}
 use Rattle.sd_base.specs.declared.raw_params.RawParams.{RawParams}
 use Rattle.sd_base.specs.declared.words.BadKind.{BadKind}
 use Rattle.sd_base.specs.declared.words.BadKind.TheVariants.{Missing, Command as NoCommand, Name as NoName}
 use Rattle.sd_base.specs.declared.words.BadWords.{BadWords}
-use Rattle.sd_base.specs.declared.words.Quiet.TheVariants.{Plan, Init, List as ListSessions, Restore}
+use Rattle.sd_base.specs.declared.words.Quiet.TheVariants.{Plan, Init, List as ListSessions, Restore, Drop, Refs}
 use Rattle.sd_base.specs.declared.words.Command.{Command}
 use Rattle.sd_base.specs.declared.words.Command.TheVariants.{Quiet, Ingest}
 
@@ -17,14 +18,15 @@ use Rattle.sd_base.specs.declared.words.Command.TheVariants.{Quiet, Ingest}
 abbrev pub default_params : RawParams
 default_params = record { polynomial = 0x3DA3358B4DC173; bits = 13; target = 120; min = 2048; max = 65536 }
 
--- the number of workers and the bytes of a segment, which no word sets yet
+-- the number of workers and the bytes of a segment if none are given
 abbrev pub default_workers : ℕ
 default_workers = 4
 
 abbrev pub default_segment : ℕ
 default_segment = 65536
 
--- how an ingest is carried out, which no word sets yet
+-- how an ingest is carried out if no key is given. No word sets the bytes of a batch and the number
+-- of shards yet.
 abbrev pub default_how : How
 default_how = record { workers = default_workers; segment = default_segment; batch = 1048576; shards = 16 }
 
@@ -51,6 +53,20 @@ max_key = decimal_key (codes "max") 0 (2 ^ 32 - 1)
 abbrev pub params_keys : List Key
 params_keys = polynomial_key ∷ bits_key ∷ target_key ∷ min_key ∷ max_key ∷ []
 
+-- the keys that set how a command is carried out
+abbrev pub workers_key : Key
+workers_key = decimal_key (codes "workers") 1 MAX_WORKERS
+
+abbrev pub segment_key : Key
+segment_key = decimal_key (codes "segment") 1 MAX_SEGMENT
+
+abbrev pub how_keys : List Key
+how_keys = workers_key ∷ segment_key ∷ []
+
+-- the keys of `plan`
+abbrev pub plan_keys : List Key
+plan_keys = params_keys ++ how_keys
+
 -- the parameters that words set
 abbrev pub params_of : List (List ℕ) → RawParams
 params_of words = record {
@@ -59,6 +75,13 @@ params_of words = record {
   target = value_or_default words target_key default_params.target;
   min = value_or_default words min_key default_params.min;
   max = value_or_default words max_key default_params.max;
+}
+
+-- how a command is carried out by the numbers that words set
+abbrev pub how_of : List (List ℕ) → How
+how_of words = record default_how {
+  workers = value_or_default words workers_key default_workers;
+  segment = value_or_default words segment_key default_segment;
 }
 
 -- the refusal of the word at a place
@@ -72,8 +95,8 @@ unless_bad (Some bad) command = Err bad
 
 -- the words after `plan`
 abbrev pub plan_of : List (List ℕ) → Result Command BadWords
-plan_of words = unless_bad (first_bad_word params_keys [] 1 words)
-    (Quiet (Plan (params_of words) default_workers default_segment))
+plan_of words = unless_bad (first_bad_word plan_keys [] 1 words)
+    (Quiet (Plan (params_of words) (how_of words).workers (how_of words).segment))
 
 -- the words after `init`
 abbrev pub init_of : List (List ℕ) → Result Command BadWords
@@ -89,7 +112,7 @@ session_command_of keys command (name ∷ words) =
 
 -- the words after `ingest`
 abbrev pub ingest_of : List (List ℕ) → Result Command BadWords
-ingest_of words = session_command_of [] (λ name more. Ingest name default_how) words
+ingest_of words = session_command_of how_keys (λ name more. Ingest name (how_of more)) words
 
 -- the words after `list`
 abbrev pub list_of : List (List ℕ) → Result Command BadWords
@@ -98,6 +121,14 @@ list_of words = unless_bad (first_bad_word [] [] 1 words) (Quiet ListSessions)
 -- the words after `restore`
 abbrev pub restore_of : List (List ℕ) → Result Command BadWords
 restore_of words = session_command_of [] (λ name more. Quiet (Restore name)) words
+
+-- the words after `drop`
+abbrev pub drop_of : List (List ℕ) → Result Command BadWords
+drop_of words = session_command_of [] (λ name more. Quiet (Drop name)) words
+
+-- the words after `refs`
+abbrev pub refs_of : List (List ℕ) → Result Command BadWords
+refs_of words = unless_bad (first_bad_word [] [] 1 words) (Quiet Refs)
 
 -- the command that the words name, or the first word that fails
 abbrev pub command_of : List (List ℕ) → Result Command BadWords
@@ -108,4 +139,6 @@ command_of (word ∷ words) =
     else if bytes_eq word (codes "ingest") then ingest_of words
     else if bytes_eq word (codes "list") then list_of words
     else if bytes_eq word (codes "restore") then restore_of words
+    else if bytes_eq word (codes "drop") then drop_of words
+    else if bytes_eq word (codes "refs") then refs_of words
     else bad_word NoCommand 0

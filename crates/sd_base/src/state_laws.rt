@@ -1,7 +1,7 @@
 //! Laws of states and of the files that hold them. Each is the contract of a function that does
 //! nothing.
 
-ghost use Rattle.sd_base.specs.StateLaws.{DistinctChunksAreThoseOfTheList, DistinctChunksDiffer, DistinctChunksOnlyGrow, StoredChunksOnlyGrow, RecordsOnlyGrow, RecipesNameTheirChunks, SizesFollowFromLengths, EachStateHasItsFiles, HeldStatesOpen, RowsAreThoseOfTheBook, RunsKeepStatesLawful, RefusalsLeaveTheState, InputsAreGivenBack};
+ghost use Rattle.sd_base.specs.StateLaws.{DistinctChunksAreThoseOfTheList, DistinctChunksDiffer, DistinctChunksOnlyGrow, StoredChunksOnlyGrow, RecordsOnlyGrow, RecipesNameTheirChunks, SizesFollowFromLengths, EachStateHasItsFiles, HeldStatesOpen, RowsAreThoseOfTheBook, ReferencesAreThoseOfTheBook, ReferenceRowsAreThoseOfTheBook, RunsKeepStatesLawful, RefusalsLeaveTheState, InputsAreGivenBack};
 
 /// The distinct chunks of a list are those of the list, each once, in order of first occurrence.
 pub fn distinct_chunks_are_each_once()
@@ -32,11 +32,13 @@ pub fn each_state_has_its_files()
     ensures { EachStateHasItsFiles }
 {}
 
-/// Files that hold a lawful state open as the book of its events, and `list` shows of that book
-/// what it shows of the state.
+/// Files that hold a lawful state open as the book of its events. `list` and `refs` show of that
+/// book what they show of the state.
 pub fn held_states_open()
     ensures opened { HeldStatesOpen }
     ensures rows { RowsAreThoseOfTheBook }
+    ensures references { ReferencesAreThoseOfTheBook }
+    ensures reference_rows { ReferenceRowsAreThoseOfTheBook }
 {}
 
 /// A run leads from a lawful state to a lawful state. If it is not done, it prints nothing and

@@ -47,6 +47,12 @@ pub enum Quiet {
     Restore {
         name: Name,
     },
+    /// Drops the live session of this name.
+    Drop {
+        name: Name,
+    },
+    /// Prints for each stored chunk how many places of live sessions name it.
+    Refs,
 }
 
 /// A command, as the words of the command line give it.
