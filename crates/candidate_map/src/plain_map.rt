@@ -62,11 +62,12 @@ impl PlainMap {
         self.words[(p / WORD_BITS) as usize] |= 1 << (p % WORD_BITS);
     }
 
-    /// Adds the position `64 * word + b` for each bit b of the mask, and changes nothing else of the
-    /// set. It takes no memory.
+    /// Adds the position `64 * word + b` for each bit b of the mask, and changes nothing else of
+    /// the set. It takes no memory.
     pub fn or_word(&mut self, word: u32, mask: u64)
         requires word_inside { WORD_BITS * word < length self.old }
-        requires bits_inside { (b : ℕ) → bit_at mask b ≡ 1 → WORD_BITS * word + b < length self.old }
+        requires bits_inside { (b : ℕ) → bit_at mask b ≡ 1
+            → WORD_BITS * word + b < length self.old }
         ensures bits { length self.new ≡ length self.old }
         ensures added { (p : ℕ) → has self.new p ≡ (has self.old p || is_in_word word mask p) }
     {

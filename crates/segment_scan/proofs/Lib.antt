@@ -6,3 +6,5 @@ mod Adding
 mod Halves
 -- a map that was empty has the candidates of the text
 mod Maps
+-- segments, the turns of a worker, and the maps of several workers
+mod Shares

@@ -1,5 +1,5 @@
 use super::name_all;
-use crate::{LengthNamer, Namer, Sha256Namer};
+use crate::{LengthNamer, Namer, Sha256Namer, hex_of};
 use sd_base::{Gate, OpenGate, Stage};
 use std::sync::atomic::{AtomicU64, Ordering};
 use std::test::Fail;
@@ -21,6 +21,29 @@ impl Gate for Noting {
             self.pieces.fetch_or(1 << piece, Ordering::SeqCst);
         }
     }
+}
+
+// The name of `abc` is an example of FIPS 180-2.
+const OF_ABC: &str = "ba7816bf8f01cfea414140de5dae2223b00361a396177a9cb410ff61f20015ad";
+
+#[test]
+fn a_text_of_one_chunk_has_its_name(rt: HostRuntime) -> Result<(), Fail> {
+    let names = name_all(
+        &rt,
+        rt.alloc(),
+        &Sha256Namer,
+        b"abc",
+        0,
+        &[3],
+        4,
+        0,
+        &OpenGate,
+    )?;
+    assert_eq!(rt; names.len(), 1);
+    for name in &names {
+        assert_eq!(rt; hex_of(rt.alloc(), name)?.as_str(), OF_ABC);
+    }
+    Ok(())
 }
 
 #[test]
