@@ -183,6 +183,13 @@ impl Book {
         &self.chunks
     }
 
+    /// The number of chunks.
+    pub fn chunk_count(&self) -> u32
+        ensures { result ≡ length (chunks_in self.now.sessions) }
+    {
+        self.chunks.len() as u32
+    }
+
     /// The number of sessions, dropped ones too.
     pub fn sessions(&self) -> u32
         ensures { result ≡ length self.now.sessions }

@@ -1,23 +1,19 @@
 -- A commit leaves clean files clean.
-use Rattle.std.proofs.Common.{◌≡◌, ◌≢◌, inl, inr, ℕ, ◌==◌, List, [], ◌++◌, length, refl, sym, ap, subst, ◌∙◌, append-nil}
-use Rattle.std.specs.List.{concat}
+use Rattle.std.proofs.Common.{◌≡◌, inl, inr, ℕ, ◌==◌, List, [], length, refl, sym, subst, append-nil}
 use Rattle.std.specs.Prelude.{Err, IfSome, None, Ok, OnOk, Option, Result, Some, slice_index_or}
-use Rattle.std.proofs.lemmas.Bool.{cases_Bool, eqb-false, eqb-true}
-use Rattle.std.proofs.lemmas.List.{length-replicate}
+use Rattle.std.proofs.lemmas.Bool.{cases_Bool, eqb-false}
 use Rattle.sd_base.specs.Books.{bytes_named, chunks_in}
 use Rattle.sd_base.specs.Packing.{packing}
 use Rattle.sd_base.specs.States.{State, stored_chunks}
-use Rattle.sd_base.specs.Stores.{HoldState, HoldStateAlone, IsCommittedAlone}
-use Rattle.sd_base.specs.declared.file.File.{File}
-use Rattle.sd_base.specs.declared.file.File.TheVariants.{Book, Container, Head, Seal}
-use Rattle.sd_base.specs.declared.limits.TheConstants.{COMMIT_BYTE}
+use Rattle.sd_base.specs.Stores.{HoldStateAlone, IsCommittedAlone}
+use Rattle.sd_base.specs.declared.file.File.TheVariants.{Container}
 use Rattle.store_core.specs.CleanFiles.{AreCleanWith}
-use Rattle.store_core.specs.Commits.{CommitsIngest, committed_state, recipe_chunks, session_record}
+use Rattle.store_core.specs.Commits.{CommitsIngest, committed_state, session_record}
 use Rattle.store_core.specs.Recipes.{IsInOrder}
 use Rattle.store_core.specs.StoreStates.{StandsFor, StoreState, chunks_of_store}
 use Rattle.store_core.specs.declared.fault.StoreFault.{StoreFault}
-use Rattle.store_core.proofs.CommitLemmas.{Bytes, CommitsSession, committed-book_file, committed-chunks, in-order, ingest-done, named-bytes, record-held}
-use Rattle.store_core.proofs.StoreLemmas.{held-is}
+use Rattle.store_core.proofs.CommitLemmas.{committed-alone, committed-held, in-order, ingest-done, named-bytes}
+use Rattle.store_core.proofs.RecordLemmas.{Bytes}
 
 -- files that hold a state alone are clean with nothing offered
 pub clean-with-none : (name_of : List ℕ → List ℕ) (files : Bytes) (state : State) → HoldStateAlone name_of files state →
@@ -38,57 +34,6 @@ clean-with-none name_of files state clean = record {
     | inr other ↦ absurd (eqb-false state.generation state.generation other refl)
   ]
 
-module _ (name_of : List ℕ → List ℕ) (store : StoreState) (before after : Bytes) (state : State)
-    (offered : List (List ℕ)) (recipe name : List ℕ) (size : ℕ)
-    (stands : StandsFor name_of store before state offered)
-    (order : IsInOrder (length (stored_chunks state)) recipe (length (stored_chunks state ++ offered)))
-    (sum : size ≡ length (concat (recipe_chunks state offered recipe)))
-    (done : CommitsSession name_of store before after state offered recipe name size stands order sum)
-    (clean : AreCleanWith name_of before state offered) where
-  abbrev new : State
-  new = committed_state state offered name recipe
-
-  held : HoldState name_of after new
-  held = record-held name_of store before after state offered recipe name size stands order sum done
-
-  same : (file : File) → file ≢ Book state.generation → file ≢ Seal state.generation → after file ≡ before file
-  same file no_book no_seal = held-is (done.others file no_book no_seal)
-
-  pub committed-alone : (file : File) → IsCommittedAlone name_of new file (after file)
-  committed-alone Head =
-      ap length (same Head (λ is. absurd cc) (λ is. absurd cc)) ∙ clean.others Head (λ k is. absurd cc)
-  committed-alone (Seal g) = elim (cases_Bool (g == state.generation)) [
-    | inl own ↦
-        let is = eqb-true g state.generation own in
-        rw own (ap (λ n. length (after (Seal n))) is ∙ held.seal ∙ sym (length-replicate (length new.events) COMMIT_BYTE))
-    | inr other ↦
-        let apart = eqb-false g state.generation other in
-        let none = clean.others (Seal g) (λ k is. absurd cc) in
-        rw other (ap length (same (Seal g) (λ is. absurd cc) (λ is. apart (cc is))) ∙ rw other at none)
-  ]
-  committed-alone (Book g) = elim (cases_Bool (g == state.generation)) [
-    | inl own ↦
-        let is = eqb-true g state.generation own in
-        rw own (ap (λ n. after (Book n)) is
-        ∙ committed-book_file name_of store before after state offered recipe name size stands order sum done)
-    | inr other ↦
-        let apart = eqb-false g state.generation other in
-        let none = clean.others (Book g) (λ k is. absurd cc) in
-        rw other (same (Book g) (λ is. apart (cc is)) (λ is. absurd cc) ∙ rw other at none)
-  ]
-  committed-alone (Container g k) = elim (cases_Bool (g == state.generation)) [
-    | inl own ↦
-        let is = eqb-true g state.generation own in
-        rw own (same (Container g k) (λ is. absurd cc) (λ is. absurd cc) ∙ ap (λ n. before (Container n k)) is
-        ∙ clean.containers k
-        ∙ ap (λ (chunks : List (List ℕ)). slice_index_or (packing chunks) k [])
-        (sym (committed-chunks name_of store before after state offered recipe name size stands order sum)))
-    | inr other ↦
-        let apart = eqb-false g state.generation other in
-        let none = clean.others (Container g k) (λ j is. apart (cc is)) in
-        rw other (same (Container g k) (λ is. absurd cc) (λ is. absurd cc) ∙ rw other at none)
-  ]
-
 -- a store that stood for a state and had clean files has clean files after a commit
 pub commit-clean : (name_of : List ℕ → List ℕ) (store : StoreState) (before after : Option Bytes)
     (recipe name : List ℕ) (size : ℕ) (result : Result ℕ StoreFault) →
@@ -106,6 +51,6 @@ commit-clean name_of store (Some had) (Some has) recipe name size (Ok k) order s
     let total = named-bytes name_of store had state offered stands recipe size sum in
     let ingest = ingest-done name_of store had has state offered stands recipe name size done in
     record {
-      holds = record-held name_of store had has state offered recipe name size stands known total ingest;
+      holds = committed-held name_of store had has state offered recipe name size stands known total ingest;
       alone = committed-alone name_of store had has state offered recipe name size stands known total ingest clean;
     }

@@ -1,67 +1,31 @@
 -- What a commit makes of the state that the files of a store hold, and of the store.
-use Rattle.std.proofs.Common.{◌≡◌, inl, inr, ℕ, ◌+◌, ◌^◌, ◌<◌, ◌≤◌, Bool, true, false, arith, List, [], ◌∷◌, ◌++◌, length, map, take, refl, ap, sym, subst, ◌∙◌, length-append, append-nil}
-use Rattle.std.specs.Prelude.{◌⊎◌, Err, IfSome, Ok, OnErr, is_ok, OnOk, Option, Result, Some, None, if◌then◌else◌, is_some, nat_le, nat_lt, slice_index_or}
+use Rattle.std.proofs.Common.{◌≡◌, inl, inr, ℕ, ◌+◌, ◌^◌, ◌<◌, ◌≤◌, Bool, true, false, arith, List, [], ◌∷◌, ◌++◌, length, map, refl, ap, sym, subst, ◌∙◌}
+use Rattle.std.specs.Prelude.{◌⊎◌, Err, IfSome, Ok, OnErr, is_ok, OnOk, Option, Result, Some, None, if◌then◌else◌, is_some, nat_le, nat_lt}
 use Rattle.std.specs.List.{concat}
-use Rattle.std.proofs.Math.Seq.{take-append_seam}
 use Rattle.std.proofs.lemmas.Bool.{leb-false}
-use Rattle.std.proofs.lemmas.Grind.{flat_map-append}
 use Rattle.std.proofs.lemmas.List.{length-map, map-append}
-use Rattle.sd_base.specs.Books.{BookState, book_of, bytes_named, chunks_in, live_session, places_in, with_record}
-use Rattle.sd_base.specs.Distinct.{AreDifferent}
+use Rattle.sd_base.specs.Books.{BookState, bytes_named, chunks_in, live_session, places_in}
 use Rattle.sd_base.specs.Names.{IsName}
-use Rattle.sd_base.specs.Opening.{HeadState, Opened}
-use Rattle.sd_base.specs.Packing.{packing}
+use Rattle.sd_base.specs.Opening.{Opened}
 use Rattle.sd_base.specs.Records.{IsIngest, spelling_of}
 use Rattle.sd_base.specs.StateBooks.{book_of_state}
 use Rattle.sd_base.specs.StateLaws.{chunk_at}
-use Rattle.sd_base.specs.States.{ingested, IsCutting, State, live_session_named, placed_chunks, sessions_in, stored_chunks}
-use Rattle.sd_base.specs.Stores.{named, HoldState, IsFrontOf, records_of}
+use Rattle.sd_base.specs.States.{Event, ingested, IsCutting, State, live_session_named, placed_chunks, sessions_in, stored_chunks}
+use Rattle.sd_base.specs.Stores.{named, HoldState, IsCommittedAlone, records_of}
 use Rattle.sd_base.specs.declared.file.File.{File}
-use Rattle.sd_base.specs.declared.file.File.TheVariants.{Head, Seal, Book, Container}
-use Rattle.sd_base.specs.declared.limits.TheConstants.{COMMIT_BYTE, MAX_CHUNKS, MAX_PLACES, MAX_SESSIONS, SETTINGS_LEN}
+use Rattle.sd_base.specs.declared.limits.TheConstants.{MAX_CHUNKS, MAX_PLACES, MAX_SESSIONS}
 use Rattle.sd_base.specs.declared.record.IngestRecord.{IngestRecord}
 use Rattle.sd_base.specs.declared.record.NewChunk.{NewChunk}
 use Rattle.sd_base.specs.declared.record.Record.{Record}
 use Rattle.sd_base.specs.declared.record.Record.TheVariants.{Ingest}
+use Rattle.store_core.specs.CleanFiles.{AreCleanWith}
 use Rattle.store_core.specs.Commits.{CommitsIngest, CommitsNothing, CommitsRecord, committed_state, committed_store, early_refusal, recipe_chunks, session_record}
 use Rattle.store_core.specs.Recipes.{IsInOrder}
 use Rattle.store_core.specs.StoreStates.{StandsFor, StoreState, chunks_of_store}
 use Rattle.store_core.specs.declared.fault.StoreFault.{StoreFault}
 use Rattle.store_core.specs.declared.fault.StoreFault.TheVariants.{NameTaken, TooManyPlaces, TooManySessions}
-use Rattle.store_core.proofs.StoreLemmas.{held-is}
-use Rattle.store_core.proofs.IngestLemmas.{book-chunks, book-live_session, book-place_count, book-session_count, ingest-book, ingest-lawful, ingest-records, ingest-stored_chunks, recipe-bytes}
-
-abbrev pub Bytes : Type 0
-Bytes = File → List ℕ
-
--- ---- a commit that ended before its seal
-
--- the front of a file is what its first bytes are
-front-is : (front tail had : List ℕ) → had ≡ front ++ tail → take (length front) had ≡ front
-front-is front tail had split = ap (take (length front)) split ∙ take-append_seam front tail
-
--- if only the bytes after those of the book have changed, then the files hold the same state
-pub nothing-held : (name_of : List ℕ → List ℕ) (before after : Bytes) (state : State) →
-    HoldState name_of before state →
-    CommitsNothing state.generation (book_of_state name_of state).used (Some before) (Some after) →
-    HoldState name_of after state
-nothing-held name_of before after state held done =
-    let old = book_of (records_of name_of state) in
-    let had = before (Book state.generation) in
-    let head : after Head ≡ before Head = held-is (done.others Head (λ is. absurd cc)) in
-    let seal : after (Seal state.generation) ≡ before (Seal state.generation) =
-    held-is (done.others (Seal state.generation) (λ is. absurd cc)) in
-    let book : after (Book state.generation) ≡ take (length old) had ++ done.book.0 = held-is done.book.1 in
-    let front = front-is old held.book.0 had held.book.1 in
-    record {
-      settings = ap (take SETTINGS_LEN) head ∙ held.settings;
-      generation = ap length head ∙ held.generation;
-      seal = ap length seal ∙ held.seal;
-      book = (done.book.0, book ∙ ap (λ bytes. bytes ++ done.book.0) front);
-      containers = λ k within.
-          let there = held.containers k within in
-          (there.0, held-is (done.others (Container state.generation k) (λ is. absurd cc)) ∙ there.1);
-    }
+use Rattle.store_core.proofs.RecordLemmas.{Bytes, entry-alone, entry-held, entry-stands, nothing-held}
+use Rattle.store_core.proofs.IngestLemmas.{book-chunks, book-live_session, book-place_count, book-session_count, ingest-lawful, ingest-records, ingest-stored_chunks, recipe-bytes}
 
 -- ---- what a store says of its state
 
@@ -162,91 +126,42 @@ module _ (name_of : List ℕ → List ℕ) (store : StoreState) (before after : 
     (stands : StandsFor name_of store before state offered)
     (order : IsInOrder (length (stored_chunks state)) recipe (length (stored_chunks state ++ offered)))
     (sum : size ≡ length (concat (recipe_chunks state offered recipe))) where
+  abbrev entry : Record
+  entry = Ingest (entry_of name_of offered recipe name size)
+
+  abbrev event : Event
+  event = ingested name (recipe_chunks state offered recipe)
+
   -- the files change as a commit of this session changes them
   abbrev pub CommitsSession : Type 0
   CommitsSession =
-      CommitsRecord state.generation (book_of_state name_of state).used
-      (spelling_of (Ingest (entry_of name_of offered recipe name size))) (Some before) (Some after)
+      CommitsRecord state.generation (book_of_state name_of state).used (spelling_of entry) (Some before) (Some after)
 
   -- the stored chunks are the old ones and those offered
-  pub committed-chunks :
-      stored_chunks (committed_state state offered name recipe) ≡ stored_chunks state ++ offered
+  committed-chunks : stored_chunks (committed_state state offered name recipe) ≡ stored_chunks state ++ offered
   committed-chunks =
       let chunks = recipe_chunks state offered recipe in
       ingest-stored_chunks state offered chunks recipe stands.different order refl name
 
-  -- the record is the last of the book
-  committed-book : book_of (records_of name_of (committed_state state offered name recipe))
-      ≡ book_of (records_of name_of state) ++ spelling_of (Ingest (entry_of name_of offered recipe name size))
-  committed-book =
+  -- the record comes after those of the state
+  committed-records : records_of name_of (committed_state state offered name recipe) ≡ records_of name_of state ++ entry ∷ []
+  committed-records =
       let old = records_of name_of state in
       let chunks = recipe_chunks state offered recipe in
-      let entry : ℕ → Record = λ n. Ingest (entry_of name_of offered recipe name n) in
-      ap book_of (ingest-records state offered chunks recipe stands.different order refl name_of name)
-      ∙ ap (λ n. book_of (old ++ entry n ∷ [])) (sym sum)
-      ∙ flat_map-append spelling_of old (entry size ∷ [])
-      ∙ ap (λ bytes. book_of old ++ bytes) (append-nil (spelling_of (entry size)))
-
-  -- the containers begin with the old chunks and those offered
-  committed-containers : CommitsSession → (k : ℕ) → k < length (packing (stored_chunks state ++ offered)) →
-      IsFrontOf (slice_index_or (packing (stored_chunks state ++ offered)) k [])
-      (after (Container state.generation k))
-  committed-containers done k within =
-      let there = stands.begin k within in (
-        there.0,
-        held-is (done.others (Container state.generation k) (λ is. absurd cc) (λ is. absurd cc)) ∙ there.1,
-      )
-
-  -- the book is that of the new state, and no more
-  pub committed-book_file : CommitsSession →
-      after (Book state.generation) ≡ book_of (records_of name_of (committed_state state offered name recipe))
-  committed-book_file done =
-      let old = book_of (records_of name_of state) in
-      let spelled = spelling_of (Ingest (entry_of name_of offered recipe name size)) in
-      let book : after (Book state.generation) ≡ take (length old) (before (Book state.generation)) ++ spelled =
-      held-is done.book in
-      book
-      ∙ ap (λ bytes. bytes ++ spelled)
-      (front-is old stands.held.book.0 (before (Book state.generation)) stands.held.book.1)
-      ∙ sym committed-book
+      let entry_for : ℕ → Record = λ n. Ingest (entry_of name_of offered recipe name n) in
+      ingest-records state offered chunks recipe stands.different order refl name_of name
+      ∙ ap (λ n. old ++ entry_for n ∷ []) (sym sum)
 
   -- the files hold the new state
-  pub record-held : CommitsSession → HoldState name_of after (committed_state state offered name recipe)
-  record-held done =
-      let new = book_of (records_of name_of (committed_state state offered name recipe)) in
-      let event = ingested name (recipe_chunks state offered recipe) in
-      let held = stands.held in
-      let head : after Head ≡ before Head =
-      held-is (done.others Head (λ is. absurd cc) (λ is. absurd cc)) in
-      let seal : after (Seal state.generation) ≡ before (Seal state.generation) ++ COMMIT_BYTE ∷ [] =
-      held-is done.seal in
-      record {
-        settings = ap (take SETTINGS_LEN) head ∙ held.settings;
-        generation = ap length head ∙ held.generation;
-        seal = ap length seal ∙ length-append (before (Seal state.generation)) (COMMIT_BYTE ∷ [])
-            ∙ ap (λ n. n + 1) held.seal ∙ sym (length-append state.events (event ∷ []));
-        book = ([], committed-book_file done ∙ sym (append-nil new));
-        containers = subst (λ chunks. (k : ℕ) → k < length (packing chunks) →
-            IsFrontOf (slice_index_or (packing chunks) k []) (after (Container state.generation k)))
-            (sym committed-chunks) (committed-containers done);
-      }
+  pub committed-held : CommitsSession → HoldState name_of after (committed_state state offered name recipe)
+  committed-held done =
+      entry-held name_of store before after state offered stands event entry committed-records committed-chunks done
 
-  -- the store has opened as the new state, with the record in its book
-  committed-opened : (committed_store store (entry_of name_of offered recipe name size)).opened
-      ≡ record {
-        head = record { params = state.params; generation = state.generation };
-        book = book_of_state name_of (committed_state state offered name recipe);
-      }
-  committed-opened =
-      let chunks = recipe_chunks state offered recipe in
-      let head : HeadState = record { params = state.params; generation = state.generation } in
-      let opened : BookState → Opened = λ book. record { head = head; book = book } in
-      let entry : ℕ → Record = λ n. Ingest (entry_of name_of offered recipe name n) in
-      let with_one_more : Opened → Opened =
-      λ old. record { head = old.head; book = with_record old.book (entry size) } in
-      ap with_one_more stands.opened
-      ∙ ap (λ n. opened (with_record (book_of_state name_of state) (entry n))) sum
-      ∙ ap opened (sym (ingest-book state offered chunks recipe stands.different order refl name_of name))
+  -- if they had nothing else before, they have nothing else
+  pub committed-alone : CommitsSession → AreCleanWith name_of before state offered → (file : File) →
+      IsCommittedAlone name_of (committed_state state offered name recipe) file (after file)
+  committed-alone done =
+      entry-alone name_of store before after state offered stands event entry committed-records committed-chunks done
 
   -- the store stands for the new state, with nothing offered
   pub committed-stands :
@@ -258,24 +173,12 @@ module _ (name_of : List ℕ → List ℕ) (store : StoreState) (before after : 
       (committed_state state offered name recipe) []
   committed-stands is_name room cut few_bytes few_chunks done =
       let chunks = recipe_chunks state offered recipe in
-      let all = stored_chunks state ++ offered in
-      let stored : stored_chunks (committed_state state offered name recipe) ++ [] ≡ all =
-      append-nil (stored_chunks (committed_state state offered name recipe)) ∙ committed-chunks in
-      let places = length-map recipe (chunk_at all) in
-      record {
-        lawful = ingest-lawful state offered chunks recipe stands.different order refl name stands.lawful
-            is_name room.free cut (subst (λ n. n < 2 ^ 32) sum few_bytes) room.few_sessions
-            (subst (λ n. length (placed_chunks state.events) + n ≤ MAX_PLACES) (sym places) room.few_places)
-            few_chunks;
-        opened = committed-opened;
-        offers = refl;
-        different = subst AreDifferent (sym stored) stands.different;
-        held = record-held done;
-        begin = subst (λ cs. (k : ℕ) → k < length (packing cs) →
-            IsFrontOf (slice_index_or (packing cs) k []) (after (Container state.generation k)))
-            (sym stored)
-            (committed-containers done);
-      }
+      let places = length-map recipe (chunk_at (stored_chunks state ++ offered)) in
+      entry-stands name_of store before after state offered stands event entry committed-records committed-chunks done
+      (ingest-lawful state offered chunks recipe stands.different order refl name stands.lawful
+      is_name room.free cut (subst (λ n. n < 2 ^ 32) sum few_bytes) room.few_sessions
+      (subst (λ n. length (placed_chunks state.events) + n ≤ MAX_PLACES) (sym places) room.few_places)
+      few_chunks)
 
 -- ---- what a commit leaves
 
@@ -356,16 +259,16 @@ commit-stands name_of store new (Some had) (Some has) recipe name size (Err faul
       elim failed [
         | inl nothing ↦ inl (nothing-held name_of had has state stands.held
             (nothing-done name_of store had has state offered stands recipe name size nothing))
-        | inr some ↦ inr (record-held name_of store had has state offered recipe name size stands known total
+        | inr some ↦ inr (committed-held name_of store had has state offered recipe name size stands known total
             (ingest-done name_of store had has state offered stands recipe name size some))
       ],
     )
 
 -- the store as a commit leaves it is sound exactly if the commit was
-pub committed-sound : (store old now : StoreState) (entry : IngestRecord) (result : Result ℕ StoreFault) (sound : Bool) →
-    now ≡ store → OnOk result (store ≡ committed_store old entry) → sound ≡ is_ok result →
-    OnOk result (record now { sound = sound } ≡ committed_store old entry)
-committed-sound store old now entry (Ok k) sound same is tells =
+pub committed-sound : (store old now : StoreState) (own : IngestRecord) (result : Result ℕ StoreFault) (sound : Bool) →
+    now ≡ store → OnOk result (store ≡ committed_store old own) → sound ≡ is_ok result →
+    OnOk result (record now { sound = sound } ≡ committed_store old own)
+committed-sound store old now own (Ok k) sound same is tells =
     ap (λ (s : StoreState). let marked : StoreState = record s { sound = sound } in marked) (same ∙ is)
-    ∙ ap (λ b. let marked : StoreState = record (committed_store old entry) { sound = b } in marked) tells
-committed-sound store old now entry (Err fault) sound same is tells = tt
+    ∙ ap (λ b. let marked : StoreState = record (committed_store old own) { sound = b } in marked) tells
+committed-sound store old now own (Err fault) sound same is tells = tt

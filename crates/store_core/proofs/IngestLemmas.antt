@@ -61,7 +61,7 @@ first_index-chunk_at (first ∷ all) (suc n) different below =
 -- ---- recipes in order
 
 -- no more chunks occurred before a recipe than after it
-in_order-limit : (known total : ℕ) (recipe : List ℕ) → IsInOrder known recipe total → known ≤ total
+pub in_order-limit : (known total : ℕ) (recipe : List ℕ) → IsInOrder known recipe total → known ≤ total
 in_order-limit known total [] order = omega (arith, order)
 in_order-limit known total (n ∷ recipe) (inl old) = in_order-limit known total recipe old.1
 in_order-limit known total (n ∷ recipe) (inr new) =
@@ -229,7 +229,7 @@ book_with : ℕ → List Session → ℕ → BookState
 book_with max sessions used = record { sessions = sessions; used = used; max = max }
 
 -- the book of records with one more is the book with one more record
-book_after-one_more : (max : ℕ) (records : List Record) (entry : Record) →
+pub book_after-one_more : (max : ℕ) (records : List Record) (entry : Record) →
     book_after max (records ++ entry ∷ []) ≡ with_record (book_after max records) entry
 unfolding book_with
 book_after-one_more max records entry =

@@ -18,6 +18,8 @@ pub mod IngestLemmas
 mod NameIndexLemmas
 -- a chunk that is offered to a store that stands for a state
 pub mod OfferLemmas
+-- what one more record makes of the state that the files hold
+mod RecordLemmas
 -- what a commit leaves of a store that stands for a state
 mod CommitLemmas
 -- a commit leaves clean files clean
@@ -38,5 +40,9 @@ mod CleanSteps
 mod OfferSteps
 -- what is written of a session that is restored
 pub mod RestoreLemmas
+-- the counts of the places of live sessions
+mod CountLemmas
+-- what a drop leaves of a store that stands for a state
+mod DropLemmas
 -- files hold at most one lawful state
 mod OneState

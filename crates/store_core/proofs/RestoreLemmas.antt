@@ -8,7 +8,7 @@ use Rattle.std.proofs.Math.ListN.{get_or-append}
 use Rattle.std.proofs.Math.Seq.{split_at, take-append-add}
 use Rattle.std.proofs.lemmas.Bool.{cases_lt, leb-false, lt-leb, lt-ltb}
 use Rattle.std.proofs.lemmas.Grind.{flat_map-append}
-use Rattle.std.proofs.lemmas.List.{append_assoc, get_or-append-add, take-append-drop, take-append-le, take_all, take_more}
+use Rattle.std.proofs.lemmas.List.{append_assoc, take-append-drop, take-append-le, take_all, take_more}
 use Rattle.std.proofs.lemmas.List.Concat.{flat_map-cons}
 use Rattle.std.proofs.lemmas.List.Elements.{All-append, All-from_recursion, All-get_or, recursion_from_All}
 use Rattle.std.proofs.lemmas.List.Quantifiers.{position-Some}
@@ -391,7 +391,7 @@ places-of (s ∷ sessions) (suc k) entry is =
     let rest = places-of sessions k entry is in
     omega (arith, sum, rest)
 
-abbrev recipe_in : List Session → Option ℕ → List ℕ
+abbrev pub recipe_in : List Session → Option ℕ → List ℕ
 recipe_in sessions found = unwrap_or (option_map (λ (s : Session). s.entry.recipe) (option_and_then (slice_get sessions) found)) []
 
 recipe-entry : (session : Option Session) (entry : IngestRecord) → option_map (λ (s : Session). s.entry) session ≡ Some entry →
@@ -528,7 +528,7 @@ module _ (name_of : List ℕ → List ℕ) (store : StoreState) (files : File �
     stands-found =
         ap (λ (o : Opened). live_session o.book.sessions name) stands.opened ∙ book-live_session name_of state name
 
-    recipe-is : recipe_named store name ≡ map (first_index stored) mine
+    pub recipe-is : recipe_named store name ≡ map (first_index stored) mine
     recipe-is =
         ap (recipe_in store.opened.book.sessions) stands-found
         ∙ ap (λ (o : Opened). recipe_in o.book.sessions found) stands.opened
@@ -666,7 +666,7 @@ undamaged-below before j (s ∷ sessions) (suc k) i none within =
     ∙ length-append s.entry.fresh (chunks_in sessions) in
     omega (arith, below, sum, all)
 
-recipe-below : (sessions : List Session) (found : Option ℕ) (i : ℕ) → recipe_damage [] 0 sessions ≡ None →
+pub recipe-below : (sessions : List Session) (found : Option ℕ) (i : ℕ) → recipe_damage [] 0 sessions ≡ None →
     i < length (recipe_in sessions found) → slice_index_or (recipe_in sessions found) i 0 < length (chunks_in sessions)
 recipe-below sessions None i none within = absurd (omega (arith, within))
 recipe-below sessions (Some k) i none within =

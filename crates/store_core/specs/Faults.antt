@@ -19,7 +19,7 @@ abbrev pub store_fault_of_book : BookFault → StoreFault
 store_fault_of_book (book.Damaged damage) = store.Damaged damage
 store_fault_of_book book.OutOfMemory = store.OutOfMemory
 
--- whether `offer` and `commit` may be called after a call that returned this
+-- whether a store may be written to after a call that returned this
 abbrev pub stays_sound : {T : Type 0} → Result T StoreFault → Bool
 stays_sound (Ok _) = true
 stays_sound (Err (store.Damaged damage)) = false

@@ -22,6 +22,10 @@ pub mod Restores
 pub mod Recipes
 -- what a commit does to the files
 pub mod Commits
+-- what a drop does to the files
+pub mod Drops
+-- the counts of the places of live sessions
+pub mod Counting
 -- an index of names of chunks
 pub mod NameIndex
 -- files of a store that have no byte too many

@@ -16,7 +16,7 @@ use Rattle.sd_base.specs.declared.record.NewChunk.{NewChunk}
 use Rattle.store_core.specs.StoreFields.{lengths_of}
 
 -- a store: what it opened as, with what was committed since; the chunks that were offered since the
--- last commit; and whether `offer` and `commit` may be called
+-- last commit; and whether `offer`, `commit` and `drop_session` may be called
 pub record StoreState : Type 0 where
   pub opened : Opened
   pub offered : List NewChunk

@@ -81,7 +81,7 @@ impl From<BookFault> for StoreFault {
     }
 }
 
-/// Whether `offer` and `commit` may be called after a call that returned this.
+/// Whether a store may be written to after a call that returned this.
 pub(crate) fn stays_sound<T>(outcome: &Result<T, StoreFault>) -> bool
     ensures { result ≡ stays_sound outcome.now }
 {

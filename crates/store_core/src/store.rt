@@ -1,18 +1,21 @@
 //! A store as one value.
-ghost use Rattle.std.specs.Prelude.{◌≡◌, ◌<◌, ◌≤◌, [], length, true, IfOk, IfSome, OnErr, IsErrOf};
+ghost use Rattle.std.specs.Prelude.{◌≡◌, ◌<◌, ◌≤◌, [], length, true, None, IfOk, IfSome, OnErr, IsErrOf};
 ghost use Rattle.std.specs.List.{All};
+ghost use Rattle.sd_base.specs.Books.{places_in, recipe_damage};
 ghost use Rattle.sd_base.specs.Opening.{IsOpeningDamage, OpenAs, chunk_lengths};
 ghost use Rattle.sd_base.specs.Params.{numbers_of};
 ghost use Rattle.sd_base.specs.States.{IsLawful, State};
 ghost use Rattle.sd_base.specs.Stores.{HoldNoStore, HoldState};
 ghost use Rattle.sd_base.specs.declared.damage.Damage.{Damage};
-ghost use Rattle.sd_base.specs.declared.limits.TheConstants.{MAX_CHUNK_LEN, MAX_CHUNKS};
+ghost use Rattle.sd_base.specs.declared.limits.TheConstants.{MAX_CHUNK_LEN, MAX_CHUNKS, MAX_PLACES};
 ghost use Rattle.store_core.specs.Faults.{IsOfOpening};
 ghost use Rattle.store_core.specs.Heads.{OnlyOpens, head_state};
 ghost use Rattle.store_core.specs.Shelves.{OnlyReads};
 ghost use Rattle.store_core.specs.StoreStates.{StandsFor, chunk_as_read, chunks_of_store, kept_chunk};
 
 mod commit;
+mod counting;
+mod dropping;
 mod offer;
 mod restore;
 
@@ -24,7 +27,9 @@ use crate::head_file::{StoreHead, read_head};
 use crate::name_index::NameIndex;
 use chunk_names::Namer;
 use container_pack::{Packer, Spot, places, read_chunk};
+use counting::counts_of;
 use edge_traits::{EdgeFault, Shelf};
+use ref_ledger::Ledger;
 use sd_base::{NewChunk, OutOfMemory, Params};
 use session_book::Book;
 use std::alloc::Global;
@@ -39,6 +44,8 @@ pub struct Store<N: Namer> {
     params: Params,
     generation: u32,
     book: Book,
+    /// How many places of live sessions name each chunk of the book.
+    counts: Ledger,
     /// The chunks that were offered since the last commit.
     offered: Vec<NewChunk>,
     /// Where the chunks lie, those offered too.
@@ -53,6 +60,7 @@ impl<N: Namer> Model for Store<N> {
     ghost use Rattle.std.specs.Prelude.{◌≡◌, ◌++◌, length};
     ghost use Rattle.sd_base.specs.Books.{chunks_in};
     ghost use Rattle.sd_base.specs.Params.{numbers_of};
+    ghost use Rattle.store_core.specs.Counting.{AreCounted};
     ghost use Rattle.store_core.specs.StoreFields.{ArePlaced, AreUnflushed};
     ghost use Rattle.store_core.specs.StoreStates.{StoreState};
 
@@ -69,7 +77,8 @@ impl<N: Namer> Model for Store<N> {
 
     ghost invariant = { λ store. (store.book.max ≡ store.params.max)
         × ArePlaced (chunks_in store.book.sessions ++ store.offered.items) store.generation store.spots.items store.packer store.index
-        × AreUnflushed (length (chunks_in store.book.sessions)) store.spots.items store.packer };
+        × AreUnflushed (length (chunks_in store.book.sessions)) store.spots.items store.packer
+        × AreCounted store.book.sessions store.counts };
 }
 
 impl<N: Namer> Store<N> {
@@ -123,8 +132,8 @@ impl<N: Namer> Store<N> {
         &self.book
     }
 
-    /// Whether `offer` and `commit` may be called: true until one of them returns `Damaged`,
-    /// `ShelfFault` or `OutOfMemory`.
+    /// Whether `offer`, `commit` and `drop_session` may be called: true until one of them returns
+    /// `Damaged`, `ShelfFault` or `OutOfMemory`.
     pub fn is_sound(&self) -> bool
         ensures sound { result ≡ self.now.sound }
     {
@@ -185,6 +194,8 @@ fn opened_store<N: Namer>(
     requires lengths { lengths.now ≡ chunk_lengths book }
     requires none_empty { All (λ n. 1 ≤ n) lengths.now }
     requires bounded { All (λ n. n ≤ MAX_CHUNK_LEN) lengths.now }
+    requires recipes { recipe_damage [] 0 book.sessions ≡ None }
+    requires few_places { places_in book.sessions ≤ MAX_PLACES }
 
     ensures opened { IfOk result (λ store. store ≡ record {
       opened = record { head = head_state head; book = book };
@@ -193,12 +204,14 @@ fn opened_store<N: Namer>(
     }) }
 {
     let spots = places(alloc, lengths)?;
+    let counts = counts_of(alloc, &book)?;
     Ok(Store {
         alloc,
         namer,
         params: head.params,
         generation: head.generation,
         book,
+        counts,
         offered: Vec::new(alloc),
         spots,
         packer: Packer::resume(head.generation, lengths),
@@ -207,5 +220,7 @@ fn opened_store<N: Namer>(
     })
 }
 
+#[cfg(test)]
+mod drop_tests;
 #[cfg(test)]
 mod tests;

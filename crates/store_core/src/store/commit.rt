@@ -32,8 +32,7 @@ impl<N: Namer> Store<N> {
     /// `NameTaken`, `TooManySessions` and `TooManyPlaces` are tried in this order, before anything is
     /// written, and leave the store with its offered chunks as it was. `ShelfFault` is returned only
     /// if the shelf's count of faults rose. After it, and if memory runs out, the store is not sound:
-    /// `offer` and `commit` must not be called again. The record is then committed whole or not at
-    /// all.
+    /// it must not be written to again. The record is then committed whole or not at all.
     pub fn commit<F: Shelf>(
         &mut self,
         shelf: &mut F,
@@ -120,6 +119,8 @@ impl<N: Namer> Store<N> {
     ) -> Result<u32, StoreFault>
         requires sound { IsTrue self.old.sound }
         requires room { early_refusal self.old.opened.book name.now (number_of recipe.now) ≡ None }
+        requires in_order { IsInOrder (number_of (chunks_in self.old.opened.book.sessions)) recipe.now
+            (number_of (chunks_of_store self.old)) }
         requires short { All (λ chunk. chunk.length ≤ self.old.opened.head.params.max) self.old.offered }
 
         ensures number { IfOk result (λ session. session ≡ number_of self.old.opened.book.sessions) }
@@ -146,7 +147,10 @@ impl<N: Namer> Store<N> {
         let (session, used) = (self.book.sessions(), self.book.used());
         let entry = Record::Ingest(self.session_record(name, length, recipe)?);
         let bytes = encode_record(self.alloc, &entry)?;
+        let chunks = self.count();
+        self.counts.reserve(chunks)?;
         self.book.add(entry)?;
+        self.counts.add(recipe);
         self.offered.clear();
         commit_bytes(shelf, &mut self.packer, self.generation, used, &bytes)?;
         Ok(session)

@@ -15,21 +15,25 @@ use std::test::Fail;
 /// The header of container 0.
 const HEADER: &[u8] = b"SSCP\0\0\0\0";
 
-const A: &[u8] = &[1; 64];
+pub(super) const A: &[u8] = &[1; 64];
 
-const B: &[u8] = &[2; 100];
+pub(super) const B: &[u8] = &[2; 100];
 /// Another chunk of the length of `A`.
-const C: &[u8] = &[3; 64];
+pub(super) const C: &[u8] = &[3; 64];
 
 /// A shelf with a store of no sessions, of which these calls fail.
-fn made(rt: &HostRuntime, failing: &[ShelfFail]) -> Result<MemShelf, Fail> {
+pub(super) fn made(rt: &HostRuntime, failing: &[ShelfFail]) -> Result<MemShelf, Fail> {
     let mut shelf = shelf_with(rt, failing)?;
     let outcome = init(rt.alloc(), &mut shelf, &small_params()?);
     outcome.ok().ok_or("it is made")?;
     Ok(shelf)
 }
 
-fn opened<N: Namer>(rt: &HostRuntime, shelf: &mut MemShelf, namer: N) -> Result<Store<N>, Fail> {
+pub(super) fn opened<N: Namer>(
+    rt: &HostRuntime,
+    shelf: &mut MemShelf,
+    namer: N,
+) -> Result<Store<N>, Fail> {
     Ok(
         Store::open(rt.alloc(), shelf, namer)
             .ok()
@@ -82,7 +86,7 @@ fn are_short(chunks: &[NewChunk], max: u32) -> bool
 }
 
 /// How a chunk is offered.
-fn offer<N: Namer>(
+pub(super) fn offer<N: Namer>(
     store: &mut Store<N>,
     shelf: &mut MemShelf,
     chunk: &[u8],
@@ -95,7 +99,7 @@ fn offer<N: Namer>(
 }
 
 /// How a session of a recipe is committed.
-fn commit<N: Namer>(
+pub(super) fn commit<N: Namer>(
     store: &mut Store<N>,
     shelf: &mut MemShelf,
     name: &Name,
@@ -111,7 +115,7 @@ fn commit<N: Namer>(
 }
 
 /// How a session of these chunks is taken in.
-fn take_in<N: Namer>(
+pub(super) fn take_in<N: Namer>(
     rt: &HostRuntime,
     store: &mut Store<N>,
     shelf: &mut MemShelf,
@@ -141,7 +145,7 @@ fn restored<N: Namer>(
 }
 
 /// Whether a session is restored as these chunks.
-fn comes_back<N: Namer>(
+pub(super) fn comes_back<N: Namer>(
     rt: &HostRuntime,
     store: &Store<N>,
     shelf: &mut MemShelf,
@@ -153,7 +157,7 @@ fn comes_back<N: Namer>(
 }
 
 /// How a session of these chunks is taken in by a store that is opened for it.
-fn take_in_anew<N: Namer>(
+pub(super) fn take_in_anew<N: Namer>(
     rt: &HostRuntime,
     shelf: &mut MemShelf,
     namer: N,
@@ -177,7 +181,11 @@ fn comes_back_anew<N: Namer>(
 }
 
 /// A shelf with a store in which the session `a` has these chunks.
-fn with_session<N: Namer>(rt: &HostRuntime, namer: N, chunks: &[&[u8]]) -> Result<MemShelf, Fail> {
+pub(super) fn with_session<N: Namer>(
+    rt: &HostRuntime,
+    namer: N,
+    chunks: &[&[u8]],
+) -> Result<MemShelf, Fail> {
     let mut shelf = made(rt, &[])?;
     let outcome = take_in_anew(rt, &mut shelf, namer, b"a", chunks)?;
     outcome.ok().ok_or("it is taken in")?;

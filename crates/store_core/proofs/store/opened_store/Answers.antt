@@ -14,4 +14,5 @@ invariant_of-result g c =
       c.requires.max,
       placed,
       committed-unflushed chunks c.new.result.items c.args.head.generation spots c.resume.result c.new-2.result placed none,
+      c.in_ok-counts.ensures.counted,
     )

@@ -42,6 +42,7 @@ invariant_of-self-2 g c =
       subst (λ (l : List Spot). AreUnflushed (length committed) l c.append_chunk.new.self) (sym spots)
           (unflushed-one_more (length committed) inside.spots.items spot inside.packer c.append_chunk.new.self c.self.invariant.2
           c.in_ok-spot.ensures.unflushed),
+      c.self.invariant.3,
     )
 
 pub returns-clause-packed : goal.returns-clause-packed

@@ -1,14 +1,18 @@
-use Rattle.std.proofs.Common.{◌≡◌, ◌≤◌, inl, ap, subst, sym, ◌∙◌, length}
+use Rattle.std.proofs.Common.{◌≡◌, ◌++◌, ◌≤◌, arith, inl, ap, subst, sym, ◌∙◌, length}
 use Rattle.std.specs.List.{All}
 use Rattle.container_pack.specs.Packer.{IsUnflushed}
 use Rattle.container_pack.proofs.PackerLemmas.{on_err}
-use Rattle.sd_base.specs.Books.{chunks_in, BookState, MayIngest}
+use Rattle.sd_base.specs.Books.{chunks_in, places_in, BookState, MayIngest}
 use Rattle.sd_base.specs.Records.{IsIngestWithinLimits}
 use Rattle.sd_base.specs.declared.record.IngestRecord.{IngestRecord}
 use Rattle.sd_base.specs.declared.record.NewChunk.{NewChunk}
 use Rattle.store_core.specs.StoreFields.{ArePlaced, AreUnflushed}
 use Rattle.store_core.specs.Commits.{AreFlushed}
+use Rattle.store_core.specs.Counting.{AreCounted}
+use Rattle.store_core.specs.Recipes.{IsInOrder}
 use Rattle.store_core.specs.StoreStates.{StoreState, chunks_of_store}
+use Rattle.store_core.proofs.CommitLemmas.{room-in}
+use Rattle.store_core.proofs.CountLemmas.{committed-counted, counted-room, reserved-counted, reserved-known}
 use Rattle.store_core.proofs.SessionLemmas.{nothing-committed, placed-committed, session-follows, session-within, committed-unflushed, offered-flushed}
 use Rattle.store_core.proofs.store.Store.commit_session.Goals as goal
 
@@ -20,6 +24,9 @@ returns-in_err-bytes-clause-not_written g c = on_err c.from_residual-in_err-byte
 
 pub returns-in_err-add-clause-not_written : goal.returns-in_err-add-clause-not_written
 returns-in_err-add-clause-not_written g c = on_err c.from_residual-in_err-add.result (inl (nothing-committed _ _ _))
+
+pub returns-in_err-reserve-clause-not_written : goal.returns-in_err-reserve-clause-not_written
+returns-in_err-reserve-clause-not_written g c = on_err c.from_residual-in_err-reserve.result (inl (nothing-committed _ _ _))
 
 pub encode_record-requires : goal.encode_record-requires
 encode_record-requires g c =
@@ -42,6 +49,40 @@ add-requires-clause-follows g c =
     (session-follows now _ _ _ _ placed c.args.name.now c.args.length c.args.recipe.now c.requires.room inside.book.max
     (subst (λ n. All (λ (chunk : NewChunk). chunk.length ≤ n) now.offered) (sym max) c.requires.short)))
 
+-- the book is as it was, and there are counts for the chunks that were offered
+pub invariant_of-self-in_err-add : goal.invariant_of-self-in_err-add
+invariant_of-self-in_err-add g c =
+    let inside = c.self.inside in
+    let counts = c.reserve.new.self in
+    subst (λ (book : BookState). (book.max ≡ inside.params.max)
+    × ArePlaced (chunks_in book.sessions ++ inside.offered.items) inside.generation inside.spots.items inside.packer inside.index
+    × AreUnflushed (length (chunks_in book.sessions)) inside.spots.items inside.packer × AreCounted book.sessions counts)
+    (sym c.in_err-add.ensures.unchanged) (
+      c.self.invariant.0,
+      c.self.invariant.1,
+      c.self.invariant.2,
+      reserved-counted inside.book.sessions inside.counts counts c.count-chunks.result c.self.invariant.3
+          c.in_ok-reserve.ensures.reserved,
+    )
+
+pub add-requires-2-clause-known : goal.add-requires-2-clause-known
+add-requires-2-clause-known g c =
+    let now = c.args.self.now in
+    let order = subst (λ n. IsInOrder (length (chunks_in now.opened.book.sessions)) c.args.recipe.now n)
+    (sym c.count-chunks.ensures.count) c.requires.in_order in
+    reserved-known (length (chunks_in now.opened.book.sessions)) c.count-chunks.result c.args.recipe.now c.self.inside.counts
+    c.reserve.new.self order c.in_ok-reserve.ensures.reserved
+
+pub add-requires-2-clause-room : goal.add-requires-2-clause-room
+add-requires-2-clause-room g c =
+    let inside = c.self.inside in
+    let now = c.args.self.now in
+    let few = (room-in now.opened.book c.args.name.now (length c.args.recipe.now) c.requires.room).few_places in
+    let same = ap (λ (s : StoreState). places_in s.opened.book.sessions) c.self.view_is in
+    counted-room inside.book.sessions c.reserve.new.self (length c.args.recipe.now)
+    (reserved-counted inside.book.sessions inside.counts c.reserve.new.self c.count-chunks.result c.self.invariant.3
+    c.in_ok-reserve.ensures.reserved) (omega (arith, few, same))
+
 pub invariant_of-self-in_err-commit_bytes : goal.invariant_of-self-in_err-commit_bytes
 invariant_of-self-in_err-commit_bytes g c =
     let inside = c.self.inside in
@@ -56,6 +97,15 @@ invariant_of-self-in_err-commit_bytes g c =
       placed,
       committed-unflushed (chunks_in c.add.new.self.sessions) c.clear.new.self.items inside.generation inside.spots.items
           c.commit_bytes.new.packer inside.index placed c.clear.ensures.items,
+      committed-counted inside.book.sessions c.add.new.self.sessions c.in_ok-session_record.field-0 inside.offered.items
+          c.args.recipe.now inside.counts c.reserve.new.self c.add-2.new.self _ c.count-chunks.result c.self.invariant.3
+          (ap (λ (book : BookState). book.sessions) added) fresh
+          (ap (λ (entry : IngestRecord). entry.recipe) c.in_ok-session_record.ensures)
+          (c.count-chunks.ensures.count ∙ ap (λ (s : StoreState). length (chunks_of_store s)) (sym c.self.view_is))
+          c.in_ok-reserve.ensures.reserved
+          (subst (λ n. IsInOrder (length (chunks_in c.args.self.now.opened.book.sessions)) c.args.recipe.now n)
+          (sym c.count-chunks.ensures.count) c.requires.in_order)
+          c.add-2.ensures.added c.add-2.ensures.chunks c.add-2.ensures.total,
     )
 
 pub invariant_of-self-2 : goal.invariant_of-self-2
@@ -72,6 +122,15 @@ invariant_of-self-2 g c =
       placed,
       committed-unflushed (chunks_in c.add.new.self.sessions) c.clear.new.self.items inside.generation inside.spots.items
           c.commit_bytes.new.packer inside.index placed c.clear.ensures.items,
+      committed-counted inside.book.sessions c.add.new.self.sessions c.in_ok-session_record.field-0 inside.offered.items
+          c.args.recipe.now inside.counts c.reserve.new.self c.add-2.new.self _ c.count-chunks.result c.self.invariant.3
+          (ap (λ (book : BookState). book.sessions) added) fresh
+          (ap (λ (entry : IngestRecord). entry.recipe) c.in_ok-session_record.ensures)
+          (c.count-chunks.ensures.count ∙ ap (λ (s : StoreState). length (chunks_of_store s)) (sym c.self.view_is))
+          c.in_ok-reserve.ensures.reserved
+          (subst (λ n. IsInOrder (length (chunks_in c.args.self.now.opened.book.sessions)) c.args.recipe.now n)
+          (sym c.count-chunks.ensures.count) c.requires.in_order)
+          c.add-2.ensures.added c.add-2.ensures.chunks c.add-2.ensures.total,
     )
 
 pub returns-clause-flushed : goal.returns-clause-flushed
