@@ -18,5 +18,7 @@ mod TakingLemmas
 mod BookLemmas
 -- a store that is opened over files that hold a state
 mod OpeningLemmas
+-- the lines of chunks
+mod PlanLemmas
 -- the parts of an ingest, put together
 mod Runs

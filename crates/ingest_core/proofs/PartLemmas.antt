@@ -1,6 +1,7 @@
 -- The first chunks of an input were offered to a store: what is known of the store and its files.
-use Rattle.std.proofs.Common.{◌≡◌, ℕ, ◌<◌, ◌≤◌, true, List, [], ◌∷◌, ◌++◌, Some, None, IfSome, OnErr, length, refl, ap, sym, subst, ◌∙◌, inl, inr, false, arith, slice_range, append-nil, length-append}
-use Rattle.std.proofs.lemmas.List.{append_assoc, length-map}
+use Rattle.std.proofs.Common.{◌≡◌, ℕ, ◌<◌, ◌≤◌, true, List, [], ◌∷◌, ◌++◌, Some, None, IfSome, OnErr, length, refl, ap, sym, subst, ◌∙◌, inl, inr, false, arith, map, slice_index_or, slice_range, append-nil, length-append}
+use Rattle.std.proofs.lemmas.List.{append_assoc, length-map, map-append}
+use Rattle.std.proofs.Math.Seq.{get_or-append_seam}
 use Rattle.std.specs.List.{All}
 use Rattle.std.specs.Prelude.{Err, Ok, Result}
 use Rattle.edge_traits.specs.Shelf.{content}
@@ -98,6 +99,20 @@ module _ (name_of : List ℕ → List ℕ) (input : List ℕ) (chunks : List (Li
         (had.offered ++ new_chunks (stored_chunks state ++ had.offered) (chunk ∷ []))))
         mid files is (clean state had.offered) had.stands));
   }
+
+  -- the chunks have one name each, and the one at the end of the recipe is that of the next chunk
+  pub part-name : (names : List (List ℕ)) → names ≡ map name_of chunks →
+      (length recipe < length names) × (slice_index_or names (length recipe) [] ≡ name_of chunk)
+  part-name names are =
+      let rest = map name_of (chunks_between input cut left) in
+      let done = map name_of part.done in
+      let split : names ≡ done ++ name_of chunk ∷ rest =
+      are ∙ ap (map name_of) (sym part.split) ∙ map-append name_of part.done (chunk ∷ chunks_between input cut left) in
+      let here : length recipe ≡ length done = part.offered.count ∙ sym (length-map part.done name_of) in (
+        omega (arith, ap length split, length-append done (name_of chunk ∷ rest), here),
+        ap (λ all. slice_index_or all (length recipe) []) split ∙ ap (λ n. slice_index_or (done ++ name_of chunk ∷ rest) n []) here
+            ∙ get_or-append_seam done (name_of chunk) rest [],
+      )
 
 -- a store with no chunk offered names none
 none_stands : (name_of : List ℕ → List ℕ) (store : StoreState) (told : Told) (state : State) →

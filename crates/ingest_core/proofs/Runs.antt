@@ -1,10 +1,10 @@
 -- The parts of an ingest, put together.
 use Rattle.std.proofs.Common.{◌≡◌, ℕ, ◌+◌, ◌≤◌, ◌<◌, List, [], Option, Some, None, Err, IfSome, length, refl, ap, sym, subst, ◌∙◌, inl, inr}
-use Rattle.std.specs.Prelude.{IsErrAnd, OnErr, ◌⊎◌, Bool, IfErr, Ok, Result}
+use Rattle.std.specs.Prelude.{IsErrAnd, OnErr, ◌⊎◌, Bool, IfErr, Ok, Result, drop, option_map}
 use Rattle.edge_traits.specs.Source.{IsAtEnd, LosesAtMost}
 use Rattle.edge_traits.specs.Shelf.{SameFiles, SameLoose}
 use Rattle.ingest_core.specs.ByBook.{IngestsByBook}
-use Rattle.ingest_core.specs.Faults.{IsBeforeReading, Fails, IsBeforeWriting, IsOfChunks, IsOfIngest, IsOfOpenTo, IsOfReading, IsStoreFailure, outcome_of}
+use Rattle.ingest_core.specs.Faults.{IsAfterReading, IsBeforeReading, Fails, IsBeforeWriting, IsOfChunks, IsOfIngest, IsOfOpenTo, IsOfReading, IsStoreFailure, outcome_of}
 use Rattle.store_core.specs.Faults.{IsOfChunk}
 use Rattle.ingest_core.specs.Ingests.{Ends, Ingests, IngestsInto, IsInputOf, LeavesShelf, ReadsSource, OpensFirst, RefusesWithCause}
 use Rattle.ingest_core.specs.ByBook.{IsOpenTo}
@@ -277,4 +277,33 @@ taking-reads (Err fault) left before after is at_end fits most = record {
   taken_at_most = most;
   too_long = λ same. absurd (subst IsOfChunks (err-is same) is);
   taken = λ same. absurd (subst IsOfChunks (err-is same) is);
+}
+
+-- a fault of reading comes after the store was opened, and before all was read
+reading-late : (fault : IngestFault) → IsOfReading fault → IsAfterReading fault → ⊥
+reading-late SourceFault is late = absurd late
+reading-late InputTooLong is late = absurd late
+reading-late (Store store.OutOfMemory) is late = absurd late
+reading-late _ is late = absurd is
+
+reading-early : (fault : IngestFault) → IsOfReading fault → IsBeforeReading fault → ⊥
+reading-early SourceFault is early = absurd early
+reading-early InputTooLong is early = absurd early
+reading-early (Store store.OutOfMemory) is early = absurd early
+reading-early _ is early = absurd is
+
+pub reading-reads : {R : Type 0} (fault : IngestFault) (left : R → Option (List ℕ)) (before after : R) → IsOfReading fault →
+    LosesAtMost (MAX_INPUT + 1) (left before) (left after) →
+    (fault ≡ InputTooLong → IfSome (left before) (λ input. MAX_INPUT < length input)) →
+    (fault ≡ InputTooLong → left after ≡ option_map (λ input. drop (MAX_INPUT + 1) input) (left before)) →
+    ReadsSource (ends fault) left before after
+reading-reads fault left before after is most long taken = record {
+  whole = tt;
+  read_first = λ late. absurd (reading-late fault is late);
+  fits = tt;
+  fits_first = λ late. absurd (reading-late fault is late);
+  untouched = λ early. absurd (reading-early fault is early);
+  taken_at_most = most;
+  too_long = λ same. long (err-is same);
+  taken = λ same. taken (err-is same);
 }

@@ -34,7 +34,7 @@ use Rattle.store_core.specs.Commits.{OnlyFails, committed_state, committed_store
 use Rattle.store_core.specs.Recipes.{IsInOrder}
 use Rattle.store_core.specs.StoreStates.{StandsFor, StoreState, chunks_of_store}
 use Rattle.store_core.specs.declared.fault.StoreFault.{StoreFault}
-use Rattle.store_core.specs.declared.fault.StoreFault.TheVariants.{TooManyPlaces}
+use Rattle.store_core.specs.declared.fault.StoreFault.TheVariants.{OutOfMemory, TooManyPlaces}
 use Rattle.store_core.proofs.IngestLemmas.{book-live_session, book-place_count, book-session_count, ingest-new_chunks}
 use Rattle.store_core.proofs.OfferLemmas.{stands-count}
 use Rattle.ingest_core.proofs.RecipeLemmas.{in_order-few}
@@ -140,6 +140,15 @@ pub no-room_told : (name_of : List ℕ → List ℕ) (first : StoreState) (told 
 no-room_told name_of first None name input cuts is_open are fits many state = tt
 no-room_told name_of first (Some files) name input cuts is_open are fits many state = λ stands.
     no-room name_of first files state stands name is_open input cuts are fits many
+
+-- if memory runs out before a chunk is offered, the files hold the state
+pub unnamed : (name_of : List ℕ → List ℕ) (first : StoreState) (told : Told) (name input : List ℕ) (r : Ends) →
+    r ≡ Err (Store OutOfMemory) → (state : State) →
+    IfSome told (λ before. StandsFor name_of first before state [] → IngestsInto name_of state name input r before told)
+unnamed name_of first None name input r is state = tt
+unnamed name_of first (Some files) name input r is state = λ stands.
+    subst (λ (q : Ends). IngestsInto name_of state name input q files (Some files)) (sym is)
+    (fails name_of state name input files (Store OutOfMemory) (Some files) tt tt (inl stands.held))
 
 -- ---- the commit
 

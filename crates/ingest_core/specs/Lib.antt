@@ -8,3 +8,5 @@ pub mod ByBook
 pub mod Ingests
 -- what becomes of the chunks of an input
 pub mod Offering
+-- what a plan shows of an input
+pub mod Plans

@@ -1,5 +1,5 @@
 //! The chunks of an input are offered to a store.
-ghost use Rattle.std.specs.Prelude.{◌≡◌, [], IsTrue, IfOk, IfSome, OnErr, OnOk};
+ghost use Rattle.std.specs.Prelude.{◌≡◌, [], IsTrue, IfOk, IfSome, OnErr, OnOk, map};
 ghost use Rattle.edge_traits.specs.Shelf.{content};
 ghost use Rattle.ingest_core.specs.Offering.{AreOffered, AreRefused, OnlyRefuses, StandsWith};
 ghost use Rattle.sd_base.specs.Cutting.{chunks_of, cuts_of};
@@ -14,13 +14,13 @@ use edge_traits::Shelf;
 use std::alloc::Global;
 use store_core::{Store, StoreFault};
 
-/// Offers the chunks of an input in order, and returns the recipe that has their numbers. Nothing
-/// was offered to the store before.
+/// Offers the chunks of an input in order, each with its name, and returns the recipe that has their
+/// numbers. Nothing was offered to the store before.
 pub(crate) fn offer_all<F: Shelf, N: Namer>(
     alloc: Global,
     store: &mut Store<&N>,
     shelf: &mut F,
-    namer: &N,
+    names: &[[u8; 32]],
     input: &[u8],
     cuts: &[u32],
 ) -> Result<Vec<u32>, StoreFault>
@@ -28,6 +28,7 @@ pub(crate) fn offer_all<F: Shelf, N: Namer>(
     requires none { store.old.offered ≡ [] }
     requires valid { IsValid store.old.opened.head.params }
     requires cuts { cuts.now ≡ cuts_of store.old.opened.head.params input.now }
+    requires names { names.now ≡ map N.name_of (chunks_of store.old.opened.head.params input.now) }
 
     ensures offered { IfOk result (λ recipe.
         AreOffered store.old (chunks_of store.old.opened.head.params input.now) recipe.items store.new) }
@@ -49,7 +50,7 @@ pub(crate) fn offer_all<F: Shelf, N: Namer>(
     let mut start = 0u32;
     for cut in cuts {
         let chunk = &input[start as usize..*cut as usize];
-        let number = store.offer(shelf, chunk, &namer.name(chunk))?;
+        let number = store.offer(shelf, chunk, &names[recipe.len()])?;
         recipe.push(number)?;
         start = *cut;
     }

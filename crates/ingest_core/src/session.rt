@@ -71,6 +71,8 @@ pub fn ingest<H: Threads + Sync, R: Source, F: Shelf, N: Namer>(
         F.faults F.faultless shelf.old shelf.new }
 {
     let mut store = open_to(alloc, shelf, namer, name)?;
-    let (input, cuts) = read_cut(alloc, store.params(), source)?;
-    take_in(alloc, &mut store, shelf, namer, name, &input, &cuts)
+    let (input, cuts) = read_cut(rt, alloc, store.params(), source, how)?;
+    take_in(
+        rt, alloc, &mut store, shelf, namer, name, &input, &cuts, how,
+    )
 }

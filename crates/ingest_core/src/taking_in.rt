@@ -5,6 +5,7 @@ ghost use Rattle.ingest_core.specs.Faults.{IsOfChunks};
 ghost use Rattle.ingest_core.specs.Ingests.{IngestsInto};
 ghost use Rattle.ingest_core.specs.ByBook.{IngestsByBook, IsOpenTo};
 ghost use Rattle.sd_base.specs.Books.{places_in};
+ghost use Rattle.sd_base.specs.Commands.{IsHow};
 ghost use Rattle.sd_base.specs.Cutting.{cuts_of};
 ghost use Rattle.sd_base.specs.Parameters.{IsValid};
 ghost use Rattle.sd_base.specs.States.{State};
@@ -14,14 +15,16 @@ ghost use Rattle.store_core.specs.StoreStates.{StandsFor};
 
 use crate::offering::offer_all;
 use crate::{IngestFault, Summary};
-use chunk_names::Namer;
+use chunk_names::{Namer, name_all};
 use edge_traits::Shelf;
-use sd_base::{MAX_PLACES, Name};
+use sd_base::{How, MAX_PLACES, Name, OpenGate};
 use std::alloc::Global;
+use std::thread::Threads;
 use store_core::{Store, StoreFault};
 
 /// Takes an input in, if the book has room for its places. Otherwise no chunk is offered.
-pub(crate) fn take_in<F: Shelf, N: Namer>(
+pub(crate) fn take_in<H: Threads + Sync, F: Shelf, N: Namer>(
+    rt: &H,
     alloc: Global,
     store: &mut Store<&N>,
     shelf: &mut F,
@@ -29,7 +32,9 @@ pub(crate) fn take_in<F: Shelf, N: Namer>(
     name: &Name,
     input: &[u8],
     cuts: &[u32],
+    how: &How,
 ) -> Result<Summary, IngestFault>
+    requires how { IsHow how.now }
     requires sound { IsTrue store.old.sound }
     requires none { store.old.offered ≡ [] }
     requires valid { IsValid store.old.opened.head.params }
@@ -51,11 +56,12 @@ pub(crate) fn take_in<F: Shelf, N: Namer>(
     if store.book().places() as usize + cuts.len() > MAX_PLACES as usize {
         return Err(IngestFault::Store(StoreFault::TooManyPlaces));
     }
-    store_session(alloc, store, shelf, namer, name, input, cuts)
+    store_session(rt, alloc, store, shelf, namer, name, input, cuts, how)
 }
 
-// Offers the chunks and commits the session.
-fn store_session<F: Shelf, N: Namer>(
+// Names the chunks, offers them and commits the session.
+fn store_session<H: Threads + Sync, F: Shelf, N: Namer>(
+    rt: &H,
     alloc: Global,
     store: &mut Store<&N>,
     shelf: &mut F,
@@ -63,7 +69,9 @@ fn store_session<F: Shelf, N: Namer>(
     name: &Name,
     input: &[u8],
     cuts: &[u32],
+    how: &How,
 ) -> Result<Summary, IngestFault>
+    requires how { IsHow how.now }
     requires sound { IsTrue store.old.sound }
     requires none { store.old.offered ≡ [] }
     requires valid { IsValid store.old.opened.head.params }
@@ -83,7 +91,8 @@ fn store_session<F: Shelf, N: Namer>(
         F.faults F.faultless shelf.old shelf.new }
 {
     let known = store.book().chunks().len();
-    let recipe = offer_all(alloc, store, shelf, namer, input, cuts)?;
+    let names = name_all(rt, alloc, namer, input, 0, cuts, how.workers, 0, &OpenGate)?;
+    let recipe = offer_all(alloc, store, shelf, &names, input, cuts)?;
     let session = store.commit(shelf, name, input.len() as u32, &recipe)?;
     Ok(Summary {
         session,

@@ -1,7 +1,10 @@
-use crate::{IngestFault, Summary, cuts_of_text, ingest};
+use crate::{IngestFault, Line, Summary, cuts_of_text, ingest, plan};
 use chunk_names::{LengthNamer, Namer, Sha256Namer};
 use edge_traits::{File, MemShelf, MemSource, ShelfFail, Source};
-use sd_base::{DEFAULT_BATCH, DEFAULT_SEGMENT, DEFAULT_SHARDS, DEFAULT_WORKERS, How, Name, Params};
+use sd_base::{
+    DEFAULT_BATCH, DEFAULT_BITS, DEFAULT_MAX, DEFAULT_MIN, DEFAULT_POLYNOMIAL, DEFAULT_SEGMENT,
+    DEFAULT_SHARDS, DEFAULT_TARGET, DEFAULT_WORKERS, How, Name, OpenGate, Params,
+};
 use std::alloc::Global;
 use std::test::Fail;
 use std::thread::Threads;
@@ -56,8 +59,72 @@ fn taken<H: Threads + Sync, N: Namer>(
 
 #[test]
 fn zeros_are_cut_at_the_minimum(rt: HostRuntime) -> Result<(), Fail> {
-    let cuts = cuts_of_text(rt.alloc(), &small_params()?, ZEROS)?;
+    let params = small_params()?;
+    let cuts = cuts_of_text(&rt, rt.alloc(), &params, ZEROS, 47, 3, &OpenGate)?;
     assert_eq!(rt; cuts.as_slice(), [64, 128, 192, 200].as_slice());
+    Ok(())
+}
+
+#[test]
+fn a_plan_has_a_line_for_each_chunk(rt: HostRuntime) -> Result<(), Fail> {
+    let whole = LengthNamer.name(&[0; 64]);
+    let last = LengthNamer.name(&[0; 8]);
+    let want = [
+        (0, 64, whole),
+        (64, 64, whole),
+        (128, 64, whole),
+        (192, 8, last),
+    ];
+    for (segment, workers) in [(DEFAULT_SEGMENT, 1), (48, 2), (1, 64)] {
+        let lines = plan(
+            &rt,
+            rt.alloc(),
+            &small_params()?,
+            ZEROS,
+            segment,
+            workers,
+            &LengthNamer,
+            &OpenGate,
+        )?;
+        assert_eq!(rt; lines.len(), want.len());
+        for (line, (offset, length, name)) in lines.iter().zip(&want) {
+            let want = Line {
+                offset: *offset,
+                length: *length,
+                name: *name,
+            };
+            assert_eq!(rt; *line, want);
+        }
+    }
+    Ok(())
+}
+
+#[test]
+fn a_short_input_is_one_line_under_the_defaults(rt: HostRuntime) -> Result<(), Fail> {
+    let params = Params::new(
+        DEFAULT_POLYNOMIAL,
+        DEFAULT_BITS,
+        DEFAULT_TARGET,
+        DEFAULT_MIN,
+        DEFAULT_MAX,
+    );
+    let params = params.ok().ok_or("valid parameters")?;
+    let want = Line {
+        offset: 0,
+        length: 3,
+        name: Sha256Namer.name(b"abc"),
+    };
+    let lines = plan(
+        &rt,
+        rt.alloc(),
+        &params,
+        b"abc",
+        DEFAULT_SEGMENT,
+        DEFAULT_WORKERS,
+        &Sha256Namer,
+        &OpenGate,
+    )?;
+    assert_eq!(rt; lines.as_slice(), [want].as_slice());
     Ok(())
 }
 

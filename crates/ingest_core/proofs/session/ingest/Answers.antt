@@ -1,14 +1,14 @@
 use Rattle.std.proofs.Common.{ℕ, List, [], IfSome, sym, subst, ◌∙◌}
 use Rattle.store_core.specs.StoreStates.{StandsFor}
 use Rattle.store_core.proofs.StoreLemmas.{same-told, told_map}
-use Rattle.ingest_core.specs.Ingests.{Ends, Ingests, IngestsInto, RefusesWithCause}
+use Rattle.ingest_core.specs.Ingests.{Ends, Ingests, IngestsInto, ReadsSource, RefusesWithCause}
 use Rattle.ingest_core.specs.ByBook.{IngestsByBook, IsBookClosedTo}
 use Rattle.ingest_core.proofs.BookLemmas.{book-open}
 use Rattle.ingest_core.proofs.FaultLemmas.{counts-on, at-match, passed-is, at-error, err-of}
 use Rattle.ingest_core.proofs.Inputs.{some_input}
 use Rattle.ingest_core.proofs.OpeningLemmas.{IsBookRefusal, IsRefusalOf}
 use Rattle.ingest_core.specs.Faults.{IsOfReading}
-use Rattle.ingest_core.proofs.Runs.{opened-sound, opened-book, opening-book, taking-reads, reading-causes, taking-causes, one-input, opening-causes, reading-into, refused-so, taking-into, taking-leaves}
+use Rattle.ingest_core.proofs.Runs.{opened-sound, opened-book, opening-book, taking-reads, reading-causes, taking-causes, one-input, opening-causes, reading-into, reading-reads, refused-so, taking-into, taking-leaves}
 use Rattle.ingest_core.proofs.session.ingest.Goals as goal
 
 pub returns-in_err-store-clause-ingests : goal.returns-in_err-store-clause-ingests
@@ -151,3 +151,15 @@ pub returns-clause-unopened : goal.returns-clause-unopened
 returns-clause-unopened g c =
     told_map (g.F.Shelf.files c.args.shelf.now) (λ files sound is. absurd (sound is))
     (opened-sound (g.F.Shelf.files c.args.shelf.now) c.in_ok-store.store.opened c.in_ok-store.ensures.opened)
+
+pub returns-in_err-input-clause-reads : goal.returns-in_err-input-clause-reads
+returns-in_err-input-clause-reads g c =
+    let left = g.R.Source.left in
+    let fault = c.in_err-input.field-0.0 in
+    subst (λ (q : Ends). ReadsSource q left c.args.source.now c.read_cut.new.source)
+    (sym (passed-is fault c.from_residual-in_err-input.result c.from_residual-in_err-input.ensures.1))
+    (reading-reads fault left c.args.source.now c.read_cut.new.source
+    (at-error IsOfReading c.read_cut.result fault c.in_err-input.was c.read_cut.ensures.refused)
+    c.read_cut.ensures.taken_at_most
+    (λ is. c.read_cut.ensures.too_long (c.in_err-input.was ∙ err-of _ is))
+    (λ is. c.read_cut.ensures.taken (c.in_err-input.was ∙ err-of _ is)))
