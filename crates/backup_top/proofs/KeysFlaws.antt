@@ -82,14 +82,16 @@ left_step f keys words i d within none =
     (one_less keys (map f (take i words)) (f (get_or words i d)) known.0 known.1)
 
 -- if a word has no flaw, the first flaw is a later word's
-pub later_step : {A : Type 0} (f : A → List ℕ) (keys : List Key) (words : List A) (i : ℕ) (d : A)
+pub later_step : {A : Type 0} (f : A → List ℕ) (keys : List Key) (place : ℕ) (words : List A) (i : ℕ) (d : A)
     → i < length words → bad_kind_of keys (map f (take i words)) (f (get_or words i d)) ≡ None
-    → first_bad_word keys (map f (take i words)) (i + 1) (map f (drop i words))
-    ≡ first_bad_word keys (map f (take (i + 1) words)) (i + 1 + 1) (map f (drop (i + 1) words))
-later_step f keys words i d within none =
+    → first_bad_word keys (map f (take i words)) (i + place) (map f (drop i words))
+    ≡ first_bad_word keys (map f (take (i + 1) words)) (i + 1 + place) (map f (drop (i + 1) words))
+later_step f keys place words i d within none =
+    let next : i + place + 1 ≡ i + 1 + place = omega arith in
     rw (
       drop-cons words i d within,
       none,
+      sym next,
       add-one i,
       take-suc words i d within,
       map-append f (take i words) (get_or words i d ∷ []),

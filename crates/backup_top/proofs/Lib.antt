@@ -15,14 +15,20 @@ mod KeysNumbers
 mod AsciiNames
 -- the rows of `list`
 mod Rows
+-- the rows of `refs`
+mod ReferenceRows
+-- the digits of a name are ASCII
+mod AsciiDigits
 -- a store is opened, whatever its files hold and if they hold a state
 mod Openings
--- a run of `list`
+-- a run of `list` or of `refs`
 mod Lists
 -- a run of `init`
 mod Inits
 -- a run of `restore`
 mod Restores
+-- a run of `drop`
+mod Drops
 -- commands that read nothing do not end as a failed read
 mod Unread
 -- a run over devices in memory

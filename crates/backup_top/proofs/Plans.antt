@@ -1,5 +1,5 @@
 -- A run of `plan`: its text is made from the input alone, and no file is touched.
-use Rattle.std.proofs.Common.{◌≡◌, inl, inr, ℕ, ◌+◌, ◌<◌, ltb, Bool, List, [], ◌∷◌, length, refl, ap, sym, subst, ◌∙◌, arith}
+use Rattle.std.proofs.Common.{◌≡◌, inl, inr, ℕ, ◌+◌, ◌<◌, ltb, Bool, List, [], ◌∷◌, ◌++◌, length, refl, ap, sym, subst, ◌∙◌, arith}
 use Rattle.std.specs.Prelude.{Err, IfErr, MatchOption, None, Ok, Option, Some, String, string_bytes}
 use Rattle.std.specs.declared.alloc.Global.{Global}
 use Rattle.std.proofs.lemmas.Bool.{cases_Bool, lt-ltb}
@@ -9,6 +9,9 @@ use Rattle.sd_base.specs.OnePass.{Pass, pass_of_plan, pass_of_valid_plan, refusa
 use Rattle.sd_base.specs.Parameters.{bad_parameter}
 use Rattle.sd_base.specs.States.{State}
 use Rattle.sd_base.specs.Stores.{Hold}
+use Rattle.sd_base.specs.Texts.{plan_line, plan_lines}
+use Rattle.ingest_core.specs.Plans.{lines_of}
+use Rattle.backup_top.specs.Lines.{printed_lines}
 use Rattle.sd_base.specs.declared.file.File.{File}
 use Rattle.sd_base.specs.declared.limits.TheConstants.{MAX_INPUT}
 use Rattle.sd_base.specs.declared.params.BadParams.{BadParams as BadParameter}
@@ -23,6 +26,11 @@ use Rattle.backup_top.specs.Steps.{IsOfPlan, IsUnmade, Made, MakesPlan, MakesSto
 use Rattle.backup_top.proofs.Runs.{carried_out, counted_as, err-of, held-told, in-err, no_records, of_write, on_ok, some_input, stay_clean, uncalled}
 
 -- ---- the text
+
+-- the lines of chunks are printed as the text of a plan
+pub print_lines : (offset : ℕ) (chunks : List (List ℕ)) → printed_lines (lines_of sha256 offset chunks) ≡ plan_lines offset chunks
+print_lines offset [] = refl
+print_lines offset (chunk ∷ chunks) = ap (λ rest. plan_line offset chunk ++ rest) (print_lines (offset + length chunk) chunks)
 
 -- an input that is too long is refused
 pub too_long : (params : RawParams) (state : Option State) (input : List ℕ) → MAX_INPUT < length input

@@ -562,7 +562,7 @@ module _ {K F : Type 0} (name : List ℕ)
           written = unmade.writes (Pass-of state).text (written_to sink_before);
           nothing_to_write = λ _. refl;
         };
-        held = λ state held. held-same (files_of middle) ending state (of.held state)
+        held = λ state held. held-same (files_of middle) ending state (of.held state state)
             (still_held (files_of before) (files_of middle) state opens.kept.same_files held);
         clean = λ done. absurd (unmade.undone done);
         among = restore-among name ending of.listed;

@@ -22,7 +22,7 @@ in-some : {A : Type 0} → A → Option A → A
 in-some x None = x
 in-some x (Some y) = y
 
-some-is : {A : Type 0} {x y : A} → ◌≡◌ {A = Option A} (Some x) (Some y) → x ≡ y
+pub some-is : {A : Type 0} {x y : A} → ◌≡◌ {A = Option A} (Some x) (Some y) → x ≡ y
 unfolding in-some
 some-is {x = x} same = ap (in-some x) same
 

@@ -8,8 +8,8 @@ use Rattle.edge_traits.specs.Sink.{AppendsPrefix}
 use Rattle.ingest_core.specs.Ingests.{IsInputOf}
 use Rattle.sd_base.specs.OnePass.{Pass, pass_of, refusal}
 use Rattle.sd_base.specs.Opening.{OpenAs, Opened}
-use Rattle.sd_base.specs.Rows.{rows_of_book}
-use Rattle.sd_base.specs.Texts.{list_text}
+use Rattle.sd_base.specs.Rows.{reference_rows_of_book, rows_of_book}
+use Rattle.sd_base.specs.Texts.{dropped_text, list_text, refs_text}
 use Rattle.sd_base.specs.States.{State}
 use Rattle.sd_base.specs.Stores.{AreClean, Hold}
 use Rattle.sd_base.specs.declared.damage.Damage.{Damage}
@@ -18,11 +18,11 @@ use Rattle.sd_base.specs.declared.limits.TheConstants.{MAX_INPUT}
 use Rattle.sd_base.specs.declared.words.BadWords.{BadWords as Refusal}
 use Rattle.sd_base.specs.declared.words.Command.{Command}
 use Rattle.sd_base.specs.declared.words.Command.TheVariants.{Quiet as quiet, Ingest}
-use Rattle.sd_base.specs.declared.words.Quiet.TheVariants.{Plan, Init, List as ListSessions, Restore}
+use Rattle.sd_base.specs.declared.words.Quiet.TheVariants.{Plan, Init, List as ListSessions, Restore, Drop, Refs}
 use Rattle.sd_base.specs.declared.outcome.Outcome.{Outcome}
 use Rattle.sd_base.specs.declared.outcome.Outcome.TheVariants.{Done, BadWords, BadParams, NoStore, StoreThere, NameTaken, NoSession, Damaged, InputTooLong, TooManySessions, TooManyPlaces, TooManyChunks, SourceFault, SinkFault, ShelfFault, OutOfMemory}
 use Rattle.store_core.specs.Shelves.{CountsFaults}
-use Rattle.backup_top.specs.ByRecords.{GoesByRecords, TakesByRecords}
+use Rattle.backup_top.specs.ByRecords.{GoesByRecords, TakesByRecords, places_named}
 use Rattle.backup_top.specs.Outcomes.{EndsAs, IsBeforeReading, IsBroken, IsBrokenOff, IsEarly, IsOneOf, IsSilent, LeavesStore, Writes}
 use Rattle.backup_top.specs.Run.{AreHeld, IsCarriedOut, IsRun, LeavesSink, LeavesSource, StayClean}
 use Rattle.backup_top.specs.Steps.{IsOfWrite, IsUnmade, Made, MakesByRecords, MakesText, WritesMade}
@@ -204,6 +204,21 @@ records-told : (told : Option (File → List ℕ)) (P : Opened → Type 0) (Open
 records-told None P Opens Q step opened makes = tt
 records-told (Some files) P Opens Q step opened makes = λ opens. step files opened (makes opens)
 
+found-text : (outcome : Outcome) (name : List ℕ) (before after : Option (List ℕ)) (text : List ℕ) → OfWrite outcome
+    → Writes outcome text before after → (found : Option ℕ)
+    → IfSome found (λ places. (text ≡ dropped_text name places) × ⊤)
+    → IfSome found (λ places. EndsAs Done outcome × Writes outcome (dropped_text name places) before after)
+found-text outcome name before after text of written None makes = tt
+found-text outcome name before after text of written (Some places) makes =
+    (of.ends Done refl, subst (λ (t : List ℕ). Writes outcome t before after) makes.0 written)
+
+found-refused : (refused : Outcome) (name : List ℕ) (written : Option (List ℕ)) → Unmade refused → (found : Option ℕ)
+    → IfSome found (λ places. ⊤ × IsBroken refused)
+    → IfSome found (λ places. EndsAs Done refused × Writes refused (dropped_text name places) written written)
+found-refused refused name written unmade None makes = tt
+found-refused refused name written unmade (Some places) makes =
+    (ends_broken Done refused makes.1, unmade.writes (dropped_text name places) written)
+
 -- what is written by the records, from what was made by them
 text-by_records : (command : Result Command Refusal) (text : String Global) (outcome : Outcome) (files : File → List ℕ)
     (opened : Opened) (before after : Option (List ℕ)) → OfWrite outcome → Writes outcome (string_bytes text) before after
@@ -216,6 +231,15 @@ text-by_records (Ok (quiet ListSessions)) text outcome files opened before after
   written = subst (λ (t : List ℕ). Writes outcome t before after) makes.0 written;
 }
 text-by_records (Ok (quiet (Restore name))) text outcome files opened before after of written makes = absurd makes
+text-by_records (Ok (quiet (Drop name))) text outcome files opened before after of written makes = record {
+  no_session = λ is. absurd (of.loud (subst IsSilent (sym is) tt));
+  absent = λ none. absurd (makes.absent none);
+  found = found-text outcome name before after (string_bytes text) of written (places_named opened.book.sessions name) makes.found;
+}
+text-by_records (Ok (quiet Refs)) text outcome files opened before after of written makes = record {
+  answer = of.ends Done refl;
+  written = subst (λ (t : List ℕ). Writes outcome t before after) makes.0 written;
+}
 text-by_records (Ok (Ingest name how)) text outcome files opened before after of written makes = tt
 
 refusal-by_records : (command : Result Command Refusal) (refused : Outcome) (files : File → List ℕ)
@@ -229,6 +253,15 @@ refusal-by_records (Ok (quiet ListSessions)) refused files opened written unmade
   written = unmade.writes (list_text (rows_of_book opened.book)) written;
 }
 refusal-by_records (Ok (quiet (Restore name))) refused files opened written unmade makes = absurd makes
+refusal-by_records (Ok (quiet (Drop name))) refused files opened written unmade makes = record {
+  no_session = λ is. makes.no_session (err-of refused is);
+  absent = makes.absent;
+  found = found-refused refused name written unmade (places_named opened.book.sessions name) makes.found;
+}
+refusal-by_records (Ok (quiet Refs)) refused files opened written unmade makes = record {
+  answer = ends_broken Done refused makes.1;
+  written = unmade.writes (refs_text (reference_rows_of_book opened.book)) written;
+}
 refusal-by_records (Ok (Ingest name how)) refused files opened written unmade makes = tt
 
 pub always-told : (P : (File → List ℕ) → Type 0) (Q : Type 0) (told : Option (File → List ℕ)) → Q

@@ -9,7 +9,7 @@ use Rattle.sd_base.specs.declared.outcome.Outcome.TheVariants.{Done, BadParams, 
 use Rattle.sd_base.specs.declared.params.BadParams.{BadParams as BadParameter}
 use Rattle.sd_base.specs.declared.raw_params.RawParams.{RawParams}
 use Rattle.sd_base.specs.declared.words.Command.TheVariants.{Quiet as quiet}
-use Rattle.sd_base.specs.declared.words.Quiet.TheVariants.{Init, List as ListSessions, Restore}
+use Rattle.sd_base.specs.declared.words.Quiet.TheVariants.{Init, List as ListSessions, Restore, Drop, Refs}
 use Rattle.backup_top.specs.Outcomes.{IsDamage, IsOneOf}
 use Rattle.backup_top.specs.Run.{MayReturn}
 
@@ -47,3 +47,12 @@ restore_unread name outcome (inl among) = one_of (Done ∷ SinkFault ∷ OutOfMe
     (λ clash. absurd cc, (λ clash. absurd cc, (λ clash. absurd cc, (λ clash. absurd cc, (λ clash. absurd cc, (λ clash. absurd cc, tt))))))
     outcome among
 restore_unread name outcome (inr found) = damaged outcome _ found
+
+pub drop_unread : (name : List ℕ) (outcome : Outcome) → MayReturn (Ok (quiet (Drop name))) outcome → outcome ≡ SourceFault → ⊥
+drop_unread name outcome (inl among) = one_of (Done ∷ SinkFault ∷ OutOfMemory ∷ NoStore ∷ ShelfFault ∷ NoSession ∷ [])
+    (λ clash. absurd cc, (λ clash. absurd cc, (λ clash. absurd cc, (λ clash. absurd cc, (λ clash. absurd cc, (λ clash. absurd cc, tt))))))
+    outcome among
+drop_unread name outcome (inr found) = damaged outcome _ found
+
+pub refs_unread : (outcome : Outcome) → MayReturn (Ok (quiet Refs)) outcome → outcome ≡ SourceFault → ⊥
+refs_unread = list_unread

@@ -1,18 +1,21 @@
 -- What a run over files that open does by their committed records, whether or not the files hold a
 -- lawful state. All rules here are this project's own.
-use Rattle.std.specs.Prelude.{◌≡◌, ◌⊎◌, ⊤, ℕ, List, [], ◌∷◌, true, Option, None, IfSome, Result, Ok, Err}
+use Rattle.std.specs.List.{slice_get}
+use Rattle.std.specs.Option.{option_and_then}
+use Rattle.std.specs.Prelude.{◌≡◌, ◌⊎◌, ⊤, ℕ, List, [], ◌∷◌, length, true, Option, None, option_map, IfSome, Result, Ok, Err}
 use Rattle.sha2.specs.Sha256.{sha256}
 use Rattle.ingest_core.specs.ByBook.{refusal_by_book}
 use Rattle.sd_base.specs.Books.{live_session}
 use Rattle.sd_base.specs.Opening.{Opened}
-use Rattle.sd_base.specs.Rows.{rows_of_book}
-use Rattle.sd_base.specs.Texts.{list_text}
+use Rattle.sd_base.specs.Rows.{reference_rows_of_book, rows_of_book}
+use Rattle.sd_base.specs.Texts.{dropped_text, list_text, refs_text}
 use Rattle.sd_base.specs.declared.damage.Damage.{Damage}
 use Rattle.sd_base.specs.declared.file.File.{File}
+use Rattle.sd_base.specs.declared.record.Session.{Session}
 use Rattle.sd_base.specs.declared.words.BadWords.{BadWords as Refusal}
 use Rattle.sd_base.specs.declared.words.Command.{Command}
 use Rattle.sd_base.specs.declared.words.Command.TheVariants.{Quiet as quiet, Ingest}
-use Rattle.sd_base.specs.declared.words.Quiet.TheVariants.{Plan, Init, List as ListSessions, Restore}
+use Rattle.sd_base.specs.declared.words.Quiet.TheVariants.{Plan, Init, List as ListSessions, Restore, Drop, Refs}
 use Rattle.sd_base.specs.declared.outcome.Outcome.{Outcome}
 use Rattle.sd_base.specs.declared.outcome.Outcome.TheVariants.{Done, NoSession, Damaged, SinkFault, OutOfMemory, ShelfFault, SourceFault, TooManyChunks}
 use Rattle.store_core.specs.Faults.{IsOfChunk}
@@ -28,6 +31,27 @@ store_of opened = record { opened = opened; offered = []; sound = true }
 pub record ListsRecords (opened : Opened) (outcome : Outcome) (before after : Option (List ℕ)) : Type 0 where
   pub answer : EndsAs Done outcome
   pub written : Writes outcome (list_text (rows_of_book opened.book)) before after
+
+-- `refs` is done, unless a device failed or memory ran out. Its text is that of the records.
+pub record CountsRecords (opened : Opened) (outcome : Outcome) (before after : Option (List ℕ)) : Type 0 where
+  pub answer : EndsAs Done outcome
+  pub written : Writes outcome (refs_text (reference_rows_of_book opened.book)) before after
+
+-- the number of places of the live session of a name, if there is one
+abbrev pub places_named : List Session → List ℕ → Option ℕ
+places_named sessions name =
+    option_map (λ session. length session.entry.recipe) (option_and_then (slice_get sessions) (live_session sessions name))
+
+-- `drop` of a name.
+pub record DropsRecords (opened : Opened) (name : List ℕ) (outcome : Outcome) (before after : Option (List ℕ)) : Type 0 where
+  -- It finds no session exactly if no live session of the records has the name, unless the shelf
+  -- failed or memory ran out.
+  pub no_session : outcome ≡ NoSession → live_session opened.book.sessions name ≡ None
+  pub absent : live_session opened.book.sessions name ≡ None → IsBroken outcome ⊎ (outcome ≡ NoSession)
+  -- Otherwise it is done, unless a device failed or memory ran out. Its text has the number of places
+  -- that the records give the session.
+  pub found : IfSome (places_named opened.book.sessions name) (λ places.
+      EndsAs Done outcome × Writes outcome (dropped_text name places) before after)
 
 -- `restore` of a name.
 pub record RestoresRecords (files : File → List ℕ) (opened : Opened) (name : List ℕ) (outcome : Outcome)
@@ -55,6 +79,8 @@ GoesByRecords (Ok (quiet (Init raw))) outcome files opened before after = ⊤
 GoesByRecords (Ok (quiet ListSessions)) outcome files opened before after = ListsRecords opened outcome before after
 GoesByRecords (Ok (quiet (Restore name))) outcome files opened before after =
     RestoresRecords files opened name outcome before after
+GoesByRecords (Ok (quiet (Drop name))) outcome files opened before after = DropsRecords opened name outcome before after
+GoesByRecords (Ok (quiet Refs)) outcome files opened before after = CountsRecords opened outcome before after
 GoesByRecords (Ok (Ingest name how)) outcome files opened before after = ⊤
 
 -- `ingest` of an input under a name.
@@ -75,4 +101,6 @@ TakesByRecords (Ok (quiet (Plan raw workers segment))) outcome opened input = �
 TakesByRecords (Ok (quiet (Init raw))) outcome opened input = ⊤
 TakesByRecords (Ok (quiet ListSessions)) outcome opened input = ⊤
 TakesByRecords (Ok (quiet (Restore name))) outcome opened input = ⊤
+TakesByRecords (Ok (quiet (Drop name))) outcome opened input = ⊤
+TakesByRecords (Ok (quiet Refs)) outcome opened input = ⊤
 TakesByRecords (Ok (Ingest name how)) outcome opened input = IngestsByRecords opened name input outcome

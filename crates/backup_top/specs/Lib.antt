@@ -1,6 +1,7 @@
 pub mod ByRecords
 pub mod InMemory
 pub mod Keys
+pub mod Lines
 pub mod Notes
 pub mod Outcomes
 pub mod Run

@@ -22,7 +22,7 @@ use Rattle.sd_base.specs.declared.limits.TheConstants.{MAX_INPUT, OPEN_HEAD_LEN}
 use Rattle.sd_base.specs.declared.words.BadWords.{BadWords as Refusal}
 use Rattle.sd_base.specs.declared.words.Command.{Command}
 use Rattle.sd_base.specs.declared.words.Command.TheVariants.{Quiet as quiet, Ingest}
-use Rattle.sd_base.specs.declared.words.Quiet.TheVariants.{Plan, Init, List as ListSessions, Restore}
+use Rattle.sd_base.specs.declared.words.Quiet.TheVariants.{Plan, Init, List as ListSessions, Restore, Drop, Refs}
 use Rattle.sd_base.specs.declared.outcome.Outcome.{Outcome}
 use Rattle.sd_base.specs.declared.outcome.Outcome.TheVariants.{Done, BadWords, BadParams, NoStore, StoreThere, NameTaken, NoSession, Damaged, InputTooLong, TooManySessions, TooManyPlaces, TooManyChunks, SourceFault, SinkFault, ShelfFault, OutOfMemory}
 use Rattle.store_core.specs.Faults.{IsOfChunk, IsOfOpening}
@@ -45,6 +45,8 @@ NeedsHeld (Ok (quiet (Plan raw workers segment))) files state = ⊤
 NeedsHeld (Ok (quiet (Init raw))) files state = bad_parameter raw ≡ None → AreHeld files state
 NeedsHeld (Ok (quiet ListSessions)) files state = AreHeld files state
 NeedsHeld (Ok (quiet (Restore name))) files state = AreHeld files state
+NeedsHeld (Ok (quiet (Drop name))) files state = AreHeld files state
+NeedsHeld (Ok (quiet Refs)) files state = AreHeld files state
 NeedsHeld (Ok (Ingest name how)) files state = AreHeld files state
 
 -- ---- what a run may return, and what it leaves, by its command
@@ -63,6 +65,10 @@ MayReturn (Ok (quiet ListSessions)) outcome =
 MayReturn (Ok (quiet (Restore name))) outcome =
     IsOneOf (Done ∷ SinkFault ∷ OutOfMemory ∷ NoStore ∷ ShelfFault ∷ NoSession ∷ []) outcome
     ⊎ IsDamage (λ flaw. IsOfOpening flaw ⊎ IsOfChunk flaw) outcome
+MayReturn (Ok (quiet (Drop name))) outcome =
+    IsOneOf (Done ∷ SinkFault ∷ OutOfMemory ∷ NoStore ∷ ShelfFault ∷ NoSession ∷ []) outcome ⊎ IsDamage IsOfOpening outcome
+MayReturn (Ok (quiet Refs)) outcome =
+    IsOneOf (Done ∷ SinkFault ∷ OutOfMemory ∷ NoStore ∷ ShelfFault ∷ []) outcome ⊎ IsDamage IsOfOpening outcome
 MayReturn (Ok (Ingest name how)) outcome =
     IsOneOf (Done ∷ SinkFault ∷ OutOfMemory ∷ NoStore ∷ ShelfFault ∷ NameTaken ∷ TooManySessions ∷ SourceFault
     ∷ InputTooLong ∷ TooManyPlaces ∷ TooManyChunks ∷ []) outcome
@@ -113,6 +119,10 @@ LeavesSource (Ok (quiet ListSessions)) outcome left files source_before source_a
     source_after ≡ source_before
 LeavesSource (Ok (quiet (Restore name))) outcome left files source_before source_after sink_before sink_after =
     source_after ≡ source_before
+LeavesSource (Ok (quiet (Drop name))) outcome left files source_before source_after sink_before sink_after =
+    source_after ≡ source_before
+LeavesSource (Ok (quiet Refs)) outcome left files source_before source_after sink_before sink_after =
+    source_after ≡ source_before
 LeavesSource (Ok (Ingest name how)) outcome left files source_before source_after sink_before sink_after =
     IngestReads name outcome left files source_before source_after sink_before sink_after
 
@@ -125,6 +135,8 @@ LeavesSink (Ok (quiet (Init raw))) outcome files before after = IsBrokenOff outc
 LeavesSink (Ok (quiet ListSessions)) outcome files before after = IsBrokenOff outcome → after ≡ before
 LeavesSink (Ok (quiet (Restore name))) outcome files before after =
     IfSome files (λ bytes_of. (flaw : Damage) → IsOpeningDamage bytes_of flaw → after ≡ before)
+LeavesSink (Ok (quiet (Drop name))) outcome files before after = IsBrokenOff outcome → after ≡ before
+LeavesSink (Ok (quiet Refs)) outcome files before after = IsBrokenOff outcome → after ≡ before
 LeavesSink (Ok (Ingest name how)) outcome files before after = IsBrokenOff outcome → after ≡ before
 
 -- no file has changed, and the same files are loose
@@ -158,6 +170,10 @@ LeavesShelf (Ok (quiet ListSessions)) outcome files_of loose before after =
     KeepsFiles files_of loose before after
 LeavesShelf (Ok (quiet (Restore name))) outcome files_of loose before after =
     KeepsFiles files_of loose before after
+LeavesShelf (Ok (quiet (Drop name))) outcome files_of loose before after =
+    IsOneOf (NoStore ∷ NoSession ∷ []) outcome ⊎ IsDamage IsOfOpening outcome → KeepsFiles files_of loose before after
+LeavesShelf (Ok (quiet Refs)) outcome files_of loose before after =
+    KeepsFiles files_of loose before after
 LeavesShelf (Ok (Ingest name how)) outcome files_of loose before after =
     IsBeforeReading outcome → KeepsFiles files_of loose before after
 
@@ -182,6 +198,8 @@ GoesByVerdict (Ok (quiet (Plan raw workers segment))) outcome files = ⊤
 GoesByVerdict (Ok (quiet (Init raw))) outcome files = bad_parameter raw ≡ None → IfSome files (LooksForStore outcome)
 GoesByVerdict (Ok (quiet ListSessions)) outcome files = IfSome files (OpensFirst (λ flaw. ⊥) outcome)
 GoesByVerdict (Ok (quiet (Restore name))) outcome files = IfSome files (OpensFirst IsOfChunk outcome)
+GoesByVerdict (Ok (quiet (Drop name))) outcome files = IfSome files (OpensFirst (λ flaw. ⊥) outcome)
+GoesByVerdict (Ok (quiet Refs)) outcome files = IfSome files (OpensFirst (λ flaw. ⊥) outcome)
 GoesByVerdict (Ok (Ingest name how)) outcome files = IfSome files (OpensFirst IsOfChunk outcome)
 
 -- if the files before had the state and nothing else, those after have the next state and nothing else

@@ -5,12 +5,13 @@ use Rattle.sha2.specs.Sha256.{sha256}
 use Rattle.edge_traits.specs.Source.{IsAtEnd, LosesAtMost}
 use Rattle.ingest_core.specs.ByBook.{refusal_by_book}
 use Rattle.ingest_core.specs.Ingests.{IsClosedTo, IsInputOf}
-use Rattle.sd_base.specs.OnePass.{Pass}
+use Rattle.sd_base.specs.Books.{live_session}
+use Rattle.sd_base.specs.OnePass.{Pass, pass_of_drop}
 use Rattle.sd_base.specs.Opening.{IsOpeningDamage, OpenAs, Opened}
-use Rattle.sd_base.specs.Rows.{rows_of_book}
-use Rattle.sd_base.specs.States.{State}
-use Rattle.sd_base.specs.Stores.{Hold, HoldNoStore}
-use Rattle.sd_base.specs.Texts.{list_text}
+use Rattle.sd_base.specs.Rows.{reference_rows_of_book, rows_of_book}
+use Rattle.sd_base.specs.States.{State, live_session_named, sessions_in}
+use Rattle.sd_base.specs.Stores.{AreClean, Hold, HoldNoStore}
+use Rattle.sd_base.specs.Texts.{dropped_text, list_text, refs_text}
 use Rattle.sd_base.specs.declared.damage.Damage.{Damage}
 use Rattle.sd_base.specs.declared.file.File.{File}
 use Rattle.sd_base.specs.declared.limits.TheConstants.{MAX_INPUT}
@@ -18,12 +19,13 @@ use Rattle.sd_base.specs.declared.params.BadParams.{BadParams as BadParameter}
 use Rattle.sd_base.specs.declared.words.BadWords.{BadWords as Refusal}
 use Rattle.sd_base.specs.declared.words.Command.{Command}
 use Rattle.sd_base.specs.declared.words.Command.TheVariants.{Quiet as quiet, Ingest}
-use Rattle.sd_base.specs.declared.words.Quiet.TheVariants.{Plan, Init, List as ListSessions, Restore}
+use Rattle.sd_base.specs.declared.words.Quiet.TheVariants.{Plan, Init, List as ListSessions, Restore, Drop, Refs}
 use Rattle.sd_base.specs.declared.outcome.Outcome.{Outcome}
 use Rattle.sd_base.specs.declared.outcome.Outcome.TheVariants.{Done, BadWords, BadParams, NoStore, StoreThere, NameTaken, NoSession, Damaged, InputTooLong, TooManySessions, TooManyPlaces, TooManyChunks, SourceFault, SinkFault, ShelfFault, OutOfMemory}
 use Rattle.store_core.specs.Faults.{IsOfChunk, IsOfOpening}
 use Rattle.store_core.specs.Shelves.{CountsFaults}
 use Rattle.store_core.specs.StoreStates.{StandsFor, StoreState}
+use Rattle.backup_top.specs.ByRecords.{places_named}
 use Rattle.backup_top.specs.Outcomes.{EndsAs, IsAfterReading, IsBeforeReading, IsBroken, IsDamage, IsEarly, IsOneOf, LeavesStore, Writes}
 use Rattle.backup_top.specs.Run.{AreHeld, GoesByVerdict, KeepsFiles, LeavesShelf, MayReturn, NeedsHeld, OpensFirst, StayClean}
 
@@ -84,6 +86,13 @@ abbrev pub MakesStoreOf : Made → Option State → Option State → (File → L
 MakesStoreOf (Ok text) before after files = Hold sha256 files after
 MakesStoreOf (Err refused) before after files = LeavesStore refused before after files
 
+-- what dropping the session of a name makes by the committed records of files that open
+pub record DropsByBook (opened : Opened) (name : List ℕ) (made : Made) : Type 0 where
+  pub no_session : made ≡ Err NoSession → live_session opened.book.sessions name ≡ None
+  pub absent : live_session opened.book.sessions name ≡ None → IsErrAnd made (λ refused. IsBroken refused ⊎ (refused ≡ NoSession))
+  pub found : IfSome (places_named opened.book.sessions name) (λ places.
+      IfOk made (λ text. string_bytes text ≡ dropped_text name places) × IfErr made IsBroken)
+
 -- what is made by the committed records of files that open, by command
 abbrev pub MakesByRecords : Result Command Refusal → Made → Opened → Type 0
 MakesByRecords (Err bad) made opened = ⊤
@@ -92,6 +101,9 @@ MakesByRecords (Ok (quiet (Init raw))) made opened = ⊤
 MakesByRecords (Ok (quiet ListSessions)) made opened =
     IfOk made (λ text. string_bytes text ≡ list_text (rows_of_book opened.book)) × IfErr made IsBroken
 MakesByRecords (Ok (quiet (Restore name))) made opened = ⊥
+MakesByRecords (Ok (quiet (Drop name))) made opened = DropsByBook opened name made
+MakesByRecords (Ok (quiet Refs)) made opened =
+    IfOk made (λ text. string_bytes text ≡ refs_text (reference_rows_of_book opened.book)) × IfErr made IsBroken
 MakesByRecords (Ok (Ingest name how)) made opened = ⊤
 
 -- What making the text of a command does. `pass` is the definition's pass on each state.
@@ -176,6 +188,24 @@ pub record OpensStore {F : Type 0} (result : Result StoreState Outcome) (files_o
   pub refused : IfErr result (λ outcome. OnlyFailsToOpen outcome × IfSome (files_of before) (OpensFirst (λ flaw. ⊥) outcome))
   pub kept : KeepsFiles files_of loose before after
   pub counts : CountsFaults (result ≡ Err ShelfFault) faults faultless before after
+
+-- the state after the session of a name is dropped, if there is one
+abbrev pub after_drop : List ℕ → State → Option State
+after_drop name state = (pass_of_drop name (live_session_named (sessions_in state) name) state).after
+
+-- What dropping the session of a name from a store that was opened does.
+pub record DropsFrom {F : Type 0} (store : StoreState) (name : List ℕ) (made : Made)
+    (files_of : F → Option (File → List ℕ)) (loose : F → File → Bool) (faults : F → ℕ) (faultless : F → Type 0)
+    (before after : F) : Type 0 where
+  pub refused : IfErr made (λ ending. IsBroken ending ⊎ (ending ≡ NoSession))
+  pub by_book : DropsByBook store.opened name made
+  pub kept : made ≡ Err NoSession → KeepsFiles files_of loose before after
+  -- If the store stands for a state, the files then hold the state of the definition.
+  pub held : (state : State) → IfSome (files_of before) (λ files. StandsFor sha256 store files state []
+      → IfSome (files_of after) (MakesStoreOf made (Some state) (after_drop name state)))
+  pub clean : OnOk made ((state : State) → IfSome (files_of before) (λ files. StandsFor sha256 store files state []
+      → AreClean sha256 files (Some state) → IfSome (files_of after) (λ then. AreClean sha256 then (after_drop name state))))
+  pub counts : CountsFaults (made ≡ Err ShelfFault) faults faultless before after
 
 -- what making the text of an ingest does by the committed records of files that open
 pub record TakesByBook (opened : Opened) (name input : List ℕ) (made : Made) : Type 0 where

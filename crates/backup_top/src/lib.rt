@@ -1,9 +1,13 @@
 //! The top of the tool: reads the words, runs the command that they name, and says how the run
 //! ended. It uses the definitions of `sd_base`, the devices of `edge_traits` and the names of
-//! `chunk_names`. It cuts and takes in by `ingest_core`, and opens, makes and restores a store by
-//! `store_core`. All rules here are this project's own.
+//! `chunk_names`. It cuts and takes in by `ingest_core`. By `store_core` it makes and opens a store,
+//! restores and drops sessions, and counts references. All rules here are this project's own.
 #![tactic(auto)]
 
+#[cfg(test)]
+mod drop_tests;
+mod drop_text;
+mod dropping;
 mod in_memory;
 mod ingest;
 mod ingest_text;
@@ -11,14 +15,18 @@ mod init;
 mod keys;
 mod list;
 mod list_text;
+mod name_digits;
 mod name_text;
 mod notes;
 mod opened;
 mod plan;
 mod plan_text;
 mod reference_cutting;
+mod refs;
+mod refs_text;
 mod restore;
 mod runner;
+mod settings;
 mod store_outcome;
 #[cfg(test)]
 mod store_tests;

@@ -6,10 +6,12 @@ ghost use Rattle.sd_base.specs.declared.words.Command.TheVariants.{Quiet as quie
 ghost use Rattle.backup_top.specs.Run.{IsRun};
 ghost use Rattle.backup_top.specs.Words.{texts_of};
 
+use crate::dropping::drop_session;
 use crate::ingest::ingest;
 use crate::init::init;
 use crate::list::list;
 use crate::plan::plan;
+use crate::refs::refs;
 use crate::restore::restore;
 use crate::words::read_words;
 use crate::write_made::write_made;
@@ -86,9 +88,15 @@ pub fn run_quiet<H: Threads + Sync, R: Source, K: Sink, F: Shelf>(
         F.files F.loose F.faults F.faultless shelf.old shelf.new }
 {
     match command {
-        Quiet::Plan { raw, .. } => write_made(sink, &plan(alloc, raw, source)),
+        Quiet::Plan {
+            raw,
+            workers,
+            segment,
+        } => write_made(sink, &plan(rt, alloc, raw, *segment, *workers, source)),
         Quiet::Init { raw } => write_made(sink, &init(alloc, raw, shelf)),
         Quiet::List => write_made(sink, &list(alloc, shelf)),
         Quiet::Restore { name } => restore(alloc, name, sink, shelf),
+        Quiet::Drop { name } => write_made(sink, &drop_session(alloc, name, shelf)),
+        Quiet::Refs => write_made(sink, &refs(alloc, shelf)),
     }
 }

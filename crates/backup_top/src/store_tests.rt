@@ -13,7 +13,7 @@ use std::thread::Threads;
 const INIT: &str = "store,init,polynomial=8000000000000001,bits=13,target=0,min=64,max=256";
 
 /// A command line, the zeros of its input, how the run ends, and what it writes.
-type Row = (&'static str, usize, Outcome, &'static str);
+pub(crate) type Row = (&'static str, usize, Outcome, &'static str);
 
 const MADE: Row = (INIT, 0, Outcome::Done, "ready\n");
 
@@ -34,7 +34,7 @@ const TAKEN: [Row; 3] = [
     ),
 ];
 
-const BOTH: &str = "0 a 200 4\n1 b 200 4\n";
+pub(crate) const BOTH: &str = "0 a 200 4\n1 b 200 4\n";
 
 /// A shelf with no files, of which these calls fail.
 fn shelf_with(alloc: Global, failing: &[ShelfFail]) -> Result<MemShelf, Fail> {
@@ -42,7 +42,7 @@ fn shelf_with(alloc: Global, failing: &[ShelfFail]) -> Result<MemShelf, Fail> {
 }
 
 /// How a command ends on an input, and what it writes.
-fn ended<H: Threads + Sync + AllocGlobal + Abort>(
+pub(crate) fn ended<H: Threads + Sync + AllocGlobal + Abort>(
     rt: &H,
     shelf: &mut MemShelf,
     line: &str,
@@ -54,7 +54,7 @@ fn ended<H: Threads + Sync + AllocGlobal + Abort>(
 }
 
 /// Runs the rows one after another.
-fn go_through<H: Threads + Sync + AllocGlobal + Abort>(
+pub(crate) fn go_through<H: Threads + Sync + AllocGlobal + Abort>(
     rt: &H,
     shelf: &mut MemShelf,
     rows: &[Row],
@@ -69,7 +69,7 @@ fn go_through<H: Threads + Sync + AllocGlobal + Abort>(
 }
 
 /// A shelf with the store of `TAKEN`.
-fn taken<H: Threads + Sync + AllocGlobal + Abort>(rt: &H) -> Result<MemShelf, Fail> {
+pub(crate) fn taken<H: Threads + Sync + AllocGlobal + Abort>(rt: &H) -> Result<MemShelf, Fail> {
     let mut shelf = shelf_with(rt.alloc(), &[])?;
     go_through(rt, &mut shelf, &TAKEN)?;
     Ok(shelf)
@@ -169,6 +169,8 @@ fn a_head_of_32_bytes_is_no_store_and_one_of_33_is(rt: HostRuntime) -> Result<()
         &[
             ("store,list", 0, Outcome::NoStore, ""),
             ("store,restore,a", 0, Outcome::NoStore, ""),
+            ("store,drop,a", 0, Outcome::NoStore, ""),
+            ("store,refs", 0, Outcome::NoStore, ""),
             ("store,ingest,a", 200, Outcome::NoStore, ""),
             (
                 "store,init,min=4096,max=2048",
@@ -224,6 +226,8 @@ fn all_find<H: Threads + Sync + AllocGlobal + Abort>(
         &[
             ("store,list", 0, ending, ""),
             ("store,restore,a", 0, ending, ""),
+            ("store,drop,a", 0, ending, ""),
+            ("store,refs", 0, ending, ""),
             ("store,ingest,c", 200, ending, ""),
         ],
     )
@@ -252,7 +256,7 @@ fn each_command_names_what_opening_finds(rt: HostRuntime) -> Result<(), Fail> {
 }
 
 /// The files of a store of generation 0 with one container.
-const FILES: [File; 4] = [
+pub(crate) const FILES: [File; 4] = [
     File::Head,
     File::Seal(0),
     File::Book(0),
@@ -260,7 +264,11 @@ const FILES: [File; 4] = [
 ];
 
 /// A shelf with the files of another, of which these calls fail.
-fn copied(alloc: Global, from: &MemShelf, failing: &[ShelfFail]) -> Result<MemShelf, Fail> {
+pub(crate) fn copied(
+    alloc: Global,
+    from: &MemShelf,
+    failing: &[ShelfFail],
+) -> Result<MemShelf, Fail> {
     let mut shelf = shelf_with(alloc, failing)?;
     for file in FILES {
         shelf.put_file(file, from.file(file))?;

@@ -14,11 +14,11 @@ fn plan(raw: RawParams) -> Result<Command, BadWords> {
 }
 
 // Command lines, and the word of each that fails.
-const BAD: [(&str, BadKind, u32); 22] = [
+const BAD: [(&str, BadKind, u32); 32] = [
     ("store", BadKind::Missing, 0),
     ("store,Plan", BadKind::Command, 0),
     ("store,,bits=13", BadKind::Command, 0),
-    ("store,drop,a", BadKind::Command, 0),
+    ("store,audit", BadKind::Command, 0),
     ("store,plan,", BadKind::Key, 1),
     ("store,plan,bits=13,bits", BadKind::Key, 2),
     ("store,plan,bits=13,min=64,bits=", BadKind::Twice, 3),
@@ -32,19 +32,29 @@ const BAD: [(&str, BadKind, u32); 22] = [
         6,
     ),
     (
-        "store,plan,max=256,min=64,target=1,bits=13,polynomial=3,workers=1",
+        "store,plan,max=256,min=64,target=1,bits=13,polynomial=3,workers=1,segment=1,batch=65536",
         BadKind::Key,
-        6,
+        8,
     ),
+    ("store,plan,workers=65", BadKind::Value, 1),
+    ("store,plan,workers=0", BadKind::Value, 1),
+    ("store,plan,workers=2,workers=99", BadKind::Twice, 2),
+    ("store,plan,segment=268435457", BadKind::Value, 1),
     ("store,init,bits=13,segment=1", BadKind::Key, 2),
     ("store,init,min=64,min=64", BadKind::Twice, 2),
     ("store,ingest", BadKind::Missing, 1),
     ("store,ingest,.x", BadKind::Name, 1),
     ("store,ingest,a,bits=13", BadKind::Key, 2),
+    ("store,ingest,a,workers=1,segment=0", BadKind::Value, 3),
+    ("store,ingest,a,workers=1,workers=1", BadKind::Twice, 3),
     ("store,list,a", BadKind::Key, 1),
     ("store,restore", BadKind::Missing, 1),
     ("store,restore,,b", BadKind::Name, 1),
     ("store,restore,a,b", BadKind::Key, 2),
+    ("store,drop", BadKind::Missing, 1),
+    ("store,drop,.x", BadKind::Name, 1),
+    ("store,drop,a,b", BadKind::Key, 2),
+    ("store,refs,a", BadKind::Key, 1),
 ];
 
 #[test]
@@ -132,6 +142,11 @@ fn each_command_of_the_store_has_its_words(rt: HostRuntime) -> Result<(), Fail> 
         batch: 1_048_576,
         shards: 16,
     };
+    let many = How {
+        workers: 64,
+        segment: 268_435_456,
+        ..how
+    };
     let name = Name::read(b"a.1").ok().ok_or("a name")?;
     for (line, command) in [
         (
@@ -139,8 +154,22 @@ fn each_command_of_the_store_has_its_words(rt: HostRuntime) -> Result<(), Fail> 
             Command::Quiet(Quiet::Init { raw }),
         ),
         ("store,ingest,a.1", Command::Ingest { name, how }),
+        (
+            "store,ingest,a.1,segment=268435456,workers=64",
+            Command::Ingest { name, how: many },
+        ),
+        (
+            "store,plan,workers=1,bits=13,target=0,polynomial=8000000000000001,segment=47,min=64,max=256",
+            Command::Quiet(Quiet::Plan {
+                raw,
+                workers: 1,
+                segment: 47,
+            }),
+        ),
         ("store,list", Command::Quiet(Quiet::List)),
         ("store,restore,a.1", Command::Quiet(Quiet::Restore { name })),
+        ("store,drop,a.1", Command::Quiet(Quiet::Drop { name })),
+        ("store,refs", Command::Quiet(Quiet::Refs)),
     ] {
         let words = words(alloc, line)?;
         assert_eq!(rt; read_words(words.as_slice()), Ok(command));

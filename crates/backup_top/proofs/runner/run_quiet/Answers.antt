@@ -1,13 +1,14 @@
 -- Each command, as its parts put it together.
 use Rattle.std.proofs.Common.{Ok, refl, subst, sym}
-use Rattle.sd_base.specs.OnePass.{in_store, pass_of_command, pass_of_init, pass_of_list}
+use Rattle.sd_base.specs.OnePass.{in_store, pass_of_command, pass_of_drop, pass_of_init, pass_of_list, pass_of_refs}
 use Rattle.sd_base.specs.Parameters.{bad_parameter}
+use Rattle.sd_base.specs.States.{State, live_session_named, sessions_in}
 use Rattle.sd_base.specs.declared.words.Command.TheVariants.{Quiet as quiet}
 use Rattle.sd_base.specs.declared.words.Quiet.{Quiet}
 use Rattle.backup_top.specs.Run.{IsRun}
 use Rattle.backup_top.proofs.Plans.{plan_runs}
 use Rattle.backup_top.proofs.Runs.{carried_out, without_source}
-use Rattle.backup_top.proofs.Unread.{init_unread, list_unread, restore_unread}
+use Rattle.backup_top.proofs.Unread.{drop_unread, init_unread, list_unread, refs_unread, restore_unread}
 use Rattle.backup_top.proofs.runner.run_quiet.Goals as goal
 
 pub returns-in-Plan : goal.returns-in-Plan
@@ -61,4 +62,34 @@ returns-in-Restore g c =
           g.F.Shelf.files g.F.Shelf.loose g.F.Shelf.faults g.F.Shelf.faultless c.args.shelf.now c.restore.new.shelf)
           (sym c.in-Restore.is)
           (without_source _ _ _ _ _ _ _ _ _ _ _ _ _ _ _ _ _ _ (restore_unread c.in-Restore.name _ made.among) refl (λ opened input. tt) made);
+    }
+
+pub returns-in-Drop : goal.returns-in-Drop
+returns-in-Drop g c =
+    let name = c.in-Drop.name in
+    let pass = in_store (λ (state : State). pass_of_drop name (live_session_named (sessions_in state) name) state) in
+    let made = carried_out pass _ c.write_made-in-Drop.result _ _ _ _ _ _ _ _ _ _ _ c.drop_session.result (λ ending sink leaves. leaves)
+    c.drop_session.ensures c.write_made-in-Drop.ensures in
+    record {
+      run = subst
+          (λ (q : Quiet). IsRun (pass_of_command (quiet q)) (Ok (quiet q)) c.write_made-in-Drop.result
+          g.R.Source.left g.R.Source.faults g.R.Source.faultless c.args.source.now c.args.source.now
+          g.K.Sink.written g.K.Sink.faults g.K.Sink.faultless c.args.sink.now c.write_made-in-Drop.new.sink
+          g.F.Shelf.files g.F.Shelf.loose g.F.Shelf.faults g.F.Shelf.faultless c.args.shelf.now c.drop_session.new.shelf)
+          (sym c.in-Drop.is)
+          (without_source pass _ _ _ _ _ _ _ _ _ _ _ _ _ _ _ _ _ (drop_unread name _ made.among) refl (λ opened input. tt) made);
+    }
+
+pub returns-in-Refs : goal.returns-in-Refs
+returns-in-Refs g c =
+    let made = carried_out (in_store pass_of_refs) _ c.write_made-in-Refs.result _ _ _ _ _ _ _ _ _ _ _ c.refs.result (λ ending sink leaves. leaves)
+    c.refs.ensures c.write_made-in-Refs.ensures in
+    record {
+      run = subst
+          (λ (q : Quiet). IsRun (pass_of_command (quiet q)) (Ok (quiet q)) c.write_made-in-Refs.result
+          g.R.Source.left g.R.Source.faults g.R.Source.faultless c.args.source.now c.args.source.now
+          g.K.Sink.written g.K.Sink.faults g.K.Sink.faultless c.args.sink.now c.write_made-in-Refs.new.sink
+          g.F.Shelf.files g.F.Shelf.loose g.F.Shelf.faults g.F.Shelf.faultless c.args.shelf.now c.refs.new.shelf)
+          (sym c.in-Refs.is)
+          (without_source (in_store pass_of_refs) _ _ _ _ _ _ _ _ _ _ _ _ _ _ _ _ _ (refs_unread _ made.among) refl (λ opened input. tt) made);
     }
