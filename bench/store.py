@@ -1,5 +1,5 @@
 #!/usr/bin/env python3
-"""Measures `ingest`, `restore` and `list` beside other programs on the same bytes, as Markdown.
+"""Measures `ingest`, `restore`, `list` and `refs` beside other programs, as Markdown.
 
 The programs run in turn, in one temporary folder. A ratio is of the best times of both sides. The
 last column has the most that a ratio or a peak of memory may be. MB is 10^6 bytes.
@@ -186,18 +186,39 @@ def write_store(room, chunks):
     write_containers(room / "s", chunks)
 
 
-def print_list(chunks, given, room):
+def lines_of(path):
+    with open(path, "rb") as file:
+        return sum(1 for _ in file)
+
+
+def measure_book(bench):
+    """The works that read the book alone, each after the program that it is compared with."""
+    room = bench.room
+    bench.measure("sum", ["sha256sum"], source=room / "s" / "book.0")
+    bench.backup("list", "list", output=room / "line")
+    bench.backup("refs", "refs", output=room / "refs")
+    copying = ["dd", "bs=64K", "status=none"]
+    bench.measure("copy", copying, source=room / "refs", output=room / "copy")
+
+
+def print_book(chunks, given, room):
     bench = Bench(room)
     write_store(bench.room, chunks)
     for _ in range(given.rounds):
-        bench.measure("sum", ["sha256sum"], source=bench.room / "s" / "book.0")
-        bench.backup("list", "list", output=bench.room / "line")
-    sessions = len((bench.room / "line").read_text().splitlines())
-    if sessions != len(range(0, chunks, PLACES_OF_A_SESSION)):
-        sys.exit(f"list shows {sessions} sessions")
-    took, yardstick = bench.seconds["list"], bench.seconds["sum"]
-    cells = [f"{chunks:,} chunks", "`list`", f"{took:.3f}", "`sha256sum` of the book"]
-    print_row(*cells, f"{yardstick:.3f}", f"{took / yardstick:.2f}", "3")
+        measure_book(bench)
+    sessions = len(range(0, chunks, PLACES_OF_A_SESSION))
+    for name, wanted in (("line", sessions), ("refs", chunks)):
+        if wanted != (came := lines_of(bench.room / name)):
+            sys.exit(f"wanted {wanted} lines, came {came}")
+    times = bench.seconds
+    rows = [
+        ("`list`", "list", "`sha256sum` of the book", times["sum"], 3),
+        ("`refs` to a file", "refs", "1.5 `list` + `dd`", 1.5 * times["list"] + times["copy"], 1),
+    ]
+    for work, name, beside, yardstick, most in rows:
+        ratio = f"{times[name] / yardstick:.2f}"
+        cells = [f"{chunks:,} chunks", work, f"{times[name]:.3f}", beside]
+        print_row(*cells, f"{yardstick:.3f}", ratio, f"{most}")
 
 
 def main():
@@ -216,7 +237,7 @@ def main():
         print_input("versions of a tree", write_versions, given, room)
     with tempfile.TemporaryDirectory(dir=given.folder) as room:
         for chunks in (given.chunks // 10, given.chunks):
-            print_list(chunks, given, room)
+            print_book(chunks, given, room)
 
 
 if __name__ == "__main__":

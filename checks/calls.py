@@ -3,13 +3,26 @@
 The calls are seen by strace. If it cannot be used, the tests are not tried.
 """
 
+import re
+from dataclasses import replace
 from random import Random
 
-from folders import COMMANDS, LONG, TEXT, with_ingest, with_tails
+from folders import COMMANDS, FOLDER, LONG, TEXT, with_ingest, with_tails
 from harness import Mismatch, expect_same
-from reference import SPARSE_ZERO, keys_of
-from reference_store import MAX_CHUNK, ingest, init, opened, twice
-from tracing import CHANGES, calls_of, traced_test
+from reference import DEFAULTS, SPARSE_ZERO, keys_of
+from reference_store import (
+    MAX_CHUNK,
+    ingest,
+    init,
+    opened,
+    references,
+    twice,
+    write_files,
+)
+from tracing import CHANGES, calls_of, traced, traced_test
+
+# Every chunk but the last of an input is as short as a chunk may be.
+SHORTEST = replace(DEFAULTS, min=48, max=48)
 
 
 def expect_synced_before(calls, commits):
@@ -55,6 +68,17 @@ def ingest_is_synced_before_its_seal_is_written():
 
 
 @traced_test
+def drop_is_synced_before_its_seal_is_written():
+    for files in (twice(), with_tails(twice(), {"book.0": b"D", "container.0.0": b"x"})):
+        calls, status = calls_of(["drop", "a"], b"", files)
+        expect_same("the status", 0, status)
+        expect_same("the writes of the book", 1, len(indexes_of(calls, "book.0", ("write",))))
+        seals = indexes_of(calls, "seal.0", ("write",))
+        expect_same("the writes of the seal", 1, len(seals))
+        expect_synced_before(calls, seals)
+
+
+@traced_test
 def every_container_is_synced_before_the_seal_is_written():
     files, draw = {}, Random(41)
     init(files, LONG)
@@ -85,11 +109,12 @@ def reading_and_refused_commands_change_no_file():
         expect_same(f"the status of {words}", wanted, status)
         expect_same("the changes", [], [it for it in calls if it.kind in CHANGES])
 
-    for words in (["list"], ["restore", "a"], ["plan"]):
+    for words in (["list"], ["restore", "a"], ["refs"], ["plan"]):
         expect_no_change(words, TEXT, twice(), 0)
     expect_no_change(["init"], b"", twice(), 4)
     expect_no_change(["ingest", "a"], TEXT, twice(), 5)
     expect_no_change(["restore", "n"], TEXT, twice(), 6)
+    expect_no_change(["drop", "n"], TEXT, twice(), 6)
     for words in COMMANDS:
         expect_no_change(words, TEXT, {}, 3)
         expect_no_change(words, TEXT, twice() | {"book.0": b""}, 7)
@@ -102,8 +127,11 @@ def commands_that_need_no_chunk_open_no_container():
         (["list"], b"", 0),
         (["restore", "e"], b"", 0),
         (["restore", "x"], b"", 6),
+        (["refs"], b"", 0),
         (["ingest", "n"], b"", 0),
         (["ingest", "a"], TEXT, 5),
+        (["drop", "a"], b"", 0),
+        (["drop", "x"], b"", 6),
         (["init"], b"", 4),
     ]
     for words, text, wanted in rows:
@@ -139,6 +167,19 @@ def file_is_cut_once_if_it_has_a_tail_and_never_otherwise():
         for name in twice():
             came = len(indexes_of(calls, name, ("cut",)))
             expect_same(f"the cuts of {name} with {[*tails]}", cuts.get(name, 0), came)
+
+
+@traced_test
+def references_are_written_in_large_pieces():
+    draw, files = Random(42), {}
+    init(files, SHORTEST)
+    ingest(files, b"a", draw.randbytes(48 * 4000))
+    text = references(files)
+    write_files(FOLDER, files)
+    expect_same("the status", 0, traced([FOLDER, "refs"], b"", "trace"))
+    with open("trace") as trace:
+        writes = [it for it in trace if re.search(r"\bwritev?\(1\b", it)]
+    expect_at_most("writes of the text", len(text) // 65_536 + 1, writes)
 
 
 @traced_test

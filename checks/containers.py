@@ -6,7 +6,7 @@ from hashlib import sha256
 from pathlib import Path
 from random import Random
 
-from folders import LONG, Twin, new_twin, refused
+from folders import COMMANDS, LONG, Twin, new_twin, refused
 from harness import each_row, expect, expect_same, run, test
 from reference import DEFAULTS
 from reference_store import (
@@ -130,7 +130,7 @@ def first_container_that_is_too_short_is_named():
 
     def expect_row(files, note):
         twin = Twin(files)
-        for words in (["list"], ["restore", "a"], ["ingest", "n"]):
+        for words in COMMANDS:
             twin.expect(words, refused(f"damaged container {note}"))
 
     each_row(rows, expect_row)

@@ -4,7 +4,7 @@ from hashlib import sha256
 from random import Random
 
 import reference_store
-from folders import FOLDER, Twin, expect_files, refused, wanted_run
+from folders import COMMANDS, FOLDER, Twin, expect_files, refused, wanted_run
 from harness import Mismatch, each_row, expect, run, test
 from reference import SPARSE_ZERO
 from reference_store import (
@@ -109,9 +109,9 @@ def cut(files, name, length):
     return files | {name: files[name][:length]}
 
 
-def expect_damage(files, note, commands=(["list"], ["restore", "a"], ["ingest", "n"])):
+def expect_damage(files, note):
     twin = Twin(files)
-    for words in commands:
+    for words in COMMANDS:
         twin.expect(words, refused(note))
         expect(wanted_run(reference_store.list_sessions, files), *refused(note))
 

@@ -37,7 +37,7 @@ def demo_passes_what_the_program_does():
         raise Mismatch(f"wanted how many bytes the second version added, came {last}")
 
 
-PLAN, LIST, INIT = "plan ", "list ", "init "
+PLAN, LIST, INIT, REFS = "plan ", "list ", "init ", "refs "
 WRONG_OUTPUT = [
     ("no line", PLAN, through("sed d")),
     ("one line", PLAN, through("sed -n 1p")),
@@ -67,6 +67,20 @@ WRONG_OUTPUT = [
     ("a byte more", "restore monday", through("cat; echo")),
     ("a byte changed", "restore monday", through("tr 7 8")),
     ("a wrong status of restore", "restore monday", f'"{PROGRAM}" "$@"; exit 7'),
+    ("no line of a drop", "drop monday", through("sed d")),
+    ("a line of another drop", "drop monday", through("sed s/monday/tuesday/")),
+    ("a wrong number of places", "drop monday", through("sed s/12/13/")),
+    ("nothing dropped", "drop monday", "echo dropped monday 12 places"),
+    ("another session dropped", "drop monday", f'"{PROGRAM}" store drop tuesday'),
+    ("a wrong status of drop", "drop monday", f'"{PROGRAM}" "$@"; exit 6'),
+    ("no references", REFS, through("sed d")),
+    ("no first reference", REFS, through("sed 1d")),
+    ("no last reference", REFS, through("sed '$d'")),
+    ("a wrong count", REFS, through("sed '1s/ 1 / 2 /'")),
+    ("a count of a dropped session", REFS, through("sed 's/ 0 / 1 /'")),
+    ("a wrong length of a chunk", REFS, through("sed '1s/ 4503 / 4504 /'")),
+    ("a wrong name of a chunk", REFS, through("sed '1s/.$/x/'")),
+    ("a wrong status of refs", REFS, f'"{PROGRAM}" "$@"; exit 3'),
     ("a wrong status of init", INIT, f'"{PROGRAM}" "$@"; exit 4'),
     ("a wrong status of list", LIST, f'"{PROGRAM}" "$@"; exit 3'),
     ("no store", INIT, "echo ready"),

@@ -16,6 +16,7 @@ from folders import (
     TEXT,
     expect_committed,
     expect_files,
+    with_drop,
     with_ingest,
 )
 from harness import (
@@ -185,14 +186,14 @@ def permissions_test(function):
 
 # Which commands have failed if a file has this mode. Sizes alone need no permission on a file.
 MODES = [
-    ("head", 0, ["list", "restore", "ingest"]),
-    ("book.0", 0, ["list", "restore", "ingest"]),
+    ("head", 0, ["list", "restore", "refs", "ingest", "drop"]),
+    ("book.0", 0, ["list", "restore", "refs", "ingest", "drop"]),
     ("container.0.0", 0, ["restore", "ingest"]),
-    ("seal.0", 0, ["ingest"]),
+    ("seal.0", 0, ["ingest", "drop"]),
     ("head", 0o400, []),
-    ("book.0", 0o400, ["ingest"]),
+    ("book.0", 0o400, ["ingest", "drop"]),
     ("container.0.0", 0o400, ["ingest"]),
-    ("seal.0", 0o400, ["ingest"]),
+    ("seal.0", 0o400, ["ingest", "drop"]),
 ]
 
 
@@ -258,12 +259,20 @@ def ingest_that_cannot_make_a_file_leaves_the_store_as_it_was(starter):
 
 
 @permissions_test
-def ingest_that_cannot_sync_the_folder_leaves_the_store_as_it_was(starter):
+def command_that_cannot_sync_the_folder_leaves_the_store_as_it_was(starter):
     """A folder that cannot be read can be written, and not be opened for its sync."""
-    for files in (twice(), {"head": twice()["head"]}):
+
+    def expect_row(files, words):
         write_files(FOLDER, files)
-        expect_refusal(run_in(0o300, ["ingest", "n"], starter), STORE)
+        expect_refusal(run_in(0o300, words, starter), STORE)
         expect_before_the_next_ingest(files)
+
+    rows = [
+        (twice(), ["ingest", "n"]),
+        ({"head": twice()["head"]}, ["ingest", "n"]),
+        (twice(), ["drop", "a"]),
+    ]
+    each_row(rows, expect_row)
 
 
 # Handles and sizes of files.
@@ -308,6 +317,26 @@ def ingest_that_fails_at_any_length_of_a_file_leaves_what_was_committed():
 
     # A limit below what the container has lets no byte be appended, like the last such one.
     shortest = len(twice()["container.0.0"]) - 1
+    each_row([(length,) for length in (0, *range(shortest, longest + 2))], expect_row)
+
+
+@test
+def drop_that_fails_at_any_length_of_a_file_leaves_what_was_committed():
+    whole = with_drop(twice())
+    longest = max(map(len, whole.values()))
+
+    def expect_row(length):
+        write_files(FOLDER, twice())
+        came = run([FOLDER, "drop", "a"], changes=FOLDER, before_start=limiting_files(length))
+        if length < longest:
+            expect_refusal(came, STORE)
+            expect_committed()
+        else:
+            expect(came, output=OUTPUTS["drop"])
+            expect_files(whole, files_in(FOLDER))
+
+    # A limit below what the book has lets no byte be appended, like the last such one.
+    shortest = len(twice()["book.0"]) - 1
     each_row([(length,) for length in (0, *range(shortest, longest + 2))], expect_row)
 
 

@@ -5,7 +5,16 @@ from dataclasses import replace
 import reference_store
 from harness import Mismatch, Run, expect, run, status_of
 from reference import DEFAULTS, SPARSE_ZERO, keys_of
-from reference_store import MAX_CHUNK, Refusal, files_in, ingest, twice, write_files
+from reference_store import (
+    MAX_CHUNK,
+    Refusal,
+    drop_session,
+    files_in,
+    ingest,
+    references_of_twice,
+    twice,
+    write_files,
+)
 
 # The folder of the store that a test makes for itself.
 FOLDER = "s"
@@ -16,11 +25,18 @@ LONG = replace(DEFAULTS, min=MAX_CHUNK, max=MAX_CHUNK)
 # What the commands print over the store `twice`, if `ingest` has this input. It has a chunk of the
 # store and a new one.
 INIT = ["init", *keys_of(SPARSE_ZERO)]
-COMMANDS = [["list"], ["restore", "a"], ["ingest", "n"]]
+COMMANDS = [["list"], ["restore", "a"], ["refs"], ["ingest", "n"], ["drop", "a"]]
 TEXT = bytes(64) + b"abc" * 50
 LISTED = b"0 a 200 4\n1 b 200 4\n"
 INGESTED = b"ingested n 214 bytes 2 places 1 new\n"
-OUTPUTS = {"init": b"ready\n", "list": LISTED, "restore": bytes(200), "ingest": INGESTED}
+OUTPUTS = {
+    "init": b"ready\n",
+    "list": LISTED,
+    "restore": bytes(200),
+    "refs": references_of_twice(6, 2),
+    "ingest": INGESTED,
+    "drop": b"dropped a 4 places\n",
+}
 
 
 def wanted_run(command, files, *given):
@@ -60,6 +76,21 @@ def with_ingest(files, name=b"n", text=TEXT):
     return later
 
 
+def with_drop(files, name=b"a"):
+    """The files after one more drop."""
+    later = dict(files)
+    drop_session(later, name)
+    return later
+
+
+def files_after(command):
+    """The files after a command over `twice`, or over none if it is `init`."""
+    if command == "init":
+        return {"head": twice()["head"]}
+    changing = {"ingest": with_ingest, "drop": with_drop}
+    return changing.get(command, dict)(twice())
+
+
 def with_tails(files, tails):
     """The files with bytes after what was committed, as a killed run leaves them."""
     return files | {name: files.get(name, b"") + tail for name, tail in tails.items()}
@@ -82,7 +113,7 @@ class Twin:
 
     def expect(self, words, wanted, source=b""):
         """Expects this run, and these files after it. A run that reads or is refused leaves all."""
-        writes = wanted.status == 0 and words[0] in ("init", "ingest")
+        writes = wanted.status == 0 and words[0] in ("init", "ingest", "drop")
         came = run([FOLDER, *words], source, changes=FOLDER if writes else None)
         expect(came, *wanted)
         expect_files(self.files, files_in(FOLDER))
@@ -94,6 +125,16 @@ class Twin:
     def ingest(self, name, text):
         wanted = wanted_run(ingest, self.files, name.encode(), text)
         self.expect(["ingest", name], wanted, text)
+        return wanted
+
+    def drop(self, name):
+        wanted = wanted_run(drop_session, self.files, name.encode())
+        self.expect(["drop", name], wanted)
+        return wanted
+
+    def refs(self):
+        wanted = wanted_run(reference_store.references, self.files)
+        self.expect(["refs"], wanted)
         return wanted
 
     def list(self):

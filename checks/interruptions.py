@@ -16,6 +16,7 @@ from folders import (
     TEXT,
     expect_committed,
     expect_files,
+    files_after,
     refused,
     with_ingest,
 )
@@ -185,13 +186,12 @@ def input_whose_writer_fails_is_what_came_until_then():
 
 @test
 def output_without_a_reader_leaves_the_state_after():
-    after = {"init": {"head": twice()["head"]}, "ingest": with_ingest(twice())}
     for words in [INIT, *COMMANDS]:
         write_files(FOLDER, {} if words == INIT else twice())
         with pipe() as (source, sink):
             source.close()
             expect_refusal(run([FOLDER, *words], TEXT, sink, changes=FOLDER), WRITING)
-        expect_files(after.get(words[0], twice()), files_in(FOLDER))
+        expect_files(files_after(words[0]), files_in(FOLDER))
 
 
 @test

@@ -5,7 +5,7 @@ Run as a program it compares itself with values that were worked out by hand.
 """
 
 import struct
-from collections import defaultdict
+from collections import Counter, defaultdict
 from hashlib import sha256
 from pathlib import Path
 from typing import NamedTuple
@@ -231,6 +231,12 @@ class Book:
     def lengths(self):
         return [it.length for it in self.chunks]
 
+    def counts(self):
+        """How many places of live sessions name each chunk."""
+        recipes = [self.sessions[number].recipe for number in self.live.values()]
+        counts = Counter(number for recipe in recipes for number in recipe)
+        return [counts[number] for number in range(len(self.chunks))]
+
 
 def read_book(text, records, longest):
     """The book of the first records of a text. Raises a refusal at the first damage."""
@@ -328,7 +334,8 @@ def chunk_reader(files, store):
     return chunk
 
 
-# Commands. Each takes the files and returns what it writes; `init` and `ingest` change the files.
+# Commands. Each takes the files and returns what it writes; `init`, `ingest` and `drop_session`
+# change the files.
 
 
 def init(files, params):
@@ -431,6 +438,23 @@ def restore(files, name):
     return b"".join(written)
 
 
+def drop_session(files, name):
+    store = opened(files)
+    if name not in store.book.live:
+        raise Refusal("no such session")
+    number = store.book.live[name]
+    append_record(files, store.generation, store.book.used, Drop(number))
+    places = len(store.book.sessions[number].recipe)
+    return f"dropped {name.decode()} {places} places\n".encode()
+
+
+def references(files):
+    book = opened(files).book
+    pairs = enumerate(zip(book.counts(), book.chunks))
+    lines = (f"{number} {count} {it.length} {it.name.hex()}\n" for number, (count, it) in pairs)
+    return "".join(lines).encode()
+
+
 # Folders.
 
 
@@ -483,6 +507,11 @@ def twice():
     return files
 
 
+def references_of_twice(whole, rest):
+    """The lines of `refs` if the two chunks of `twice` have these counts."""
+    return f"0 {whole} 64 {ZEROS_64.hex()}\n1 {rest} 8 {ZEROS_8.hex()}\n".encode()
+
+
 def compare_twice():
     files = twice()
     compare("the head", KNOWN_HEAD, files["head"])
@@ -492,6 +521,11 @@ def compare_twice():
     compare("the length of the book", 139 + 67, len(files["book.0"]))
     compare("the list", b"0 a 200 4\n1 b 200 4\n", list_sessions(files))
     compare("what was taken in", bytes(200), restore(files, b"b"))
+    compare("the references", references_of_twice(6, 2), references(files))
+    compare("the drop", b"dropped a 4 places\n", drop_session(files, b"a"))
+    compare("the record of the drop", KNOWN_DROP, files["book.0"][206:])
+    compare("the references after it", references_of_twice(3, 1), references(files))
+    compare("the list after it", b"1 b 200 4\n", list_sessions(files))
 
 
 def compare_records():

@@ -14,6 +14,7 @@ from folders import (
     TEXT,
     expect_committed,
     expect_files,
+    files_after,
     refused,
     with_ingest,
 )
@@ -36,10 +37,9 @@ def expect_state_after(words, files, before=None):
 
 @test
 def output_that_fails_leaves_the_state_after():
-    expect_state_after(INIT, {"head": twice()["head"]}, before={})
-    expect_state_after(["ingest", "n"], with_ingest(twice()))
-    expect_state_after(["list"], twice())
-    expect_state_after(["restore", "a"], twice())
+    expect_state_after(INIT, files_after("init"), before={})
+    for words in COMMANDS:
+        expect_state_after(words, files_after(words[0]))
 
 
 @test
@@ -47,19 +47,18 @@ def empty_output_is_not_noticed():
     files = {}
     init(files, DEFAULTS)
     write_files(FOLDER, files)
-    expect(run([FOLDER, "list"], starter=closing(">&")))
+    for words in (["list"], ["refs"]):
+        expect(run([FOLDER, *words], starter=closing(">&")))
     write_files(FOLDER, with_ingest(files, b"e", b""))
     expect(run([FOLDER, "restore", "e"], starter=closing(">&")))
 
 
 def wanted_of_closed(command, closed):
     """How a command ends if these standard streams are closed, and the files that it leaves."""
-    before = {} if command == "init" else twice()
-    after = {"init": {"head": twice()["head"]}, "ingest": with_ingest(twice())}
     if command == "ingest" and 0 in closed:
-        wanted, files = refused(READING), before
+        wanted, files = refused(READING), twice()
     else:
-        wanted, files = Run(0, OUTPUTS[command], b""), after.get(command, before)
+        wanted, files = Run(0, OUTPUTS[command], b""), files_after(command)
         if 1 in closed:
             wanted = refused(WRITING)
     return (wanted._replace(notes=b"") if 2 in closed else wanted), files

@@ -127,7 +127,9 @@ def commands_leave_a_folder_as_they_should():
         (["ingest", "b"], b"abc", {"book.0", "seal.0"}),
         (["restore", "a"], b"", set()),
         (["list"], b"", set()),
+        (["refs"], b"", set()),
         (["plan"], b"abc", set()),
+        (["drop", "a"], b"", {"book.0", "seal.0"}),
     ]
     before = entries_of(STORE)
     for words, source, changes in rows:
@@ -138,11 +140,16 @@ def commands_leave_a_folder_as_they_should():
 
 @test
 def refused_commands_leave_a_folder_as_it_was():
-    for words in (["list"], ["restore", "a"], ["ingest", "a"]):
+    for words in (["list"], ["restore", "a"], ["refs"], ["ingest", "a"], ["drop", "a"]):
         expect_refusal(run([STORE, *words], b"abc"), "no store")
     folder_after(["init"])
     folder_after(["ingest", "a"], b"abc")
-    for words, note in ((["init"], "store already there"), (["ingest", "a"], "name taken")):
+    rows = [
+        (["init"], "store already there"),
+        (["ingest", "a"], "name taken"),
+        (["drop", "b"], "no such session"),
+    ]
+    for words, note in rows:
         expect_refusal(run([STORE, *words], b"abc"), note)
 
 

@@ -98,9 +98,14 @@ WRONG_WORDS = [
     (["ingest", "a"], COMMAND),
     # These commands are not built.
     (["store", "bulk", "7", "1"], COMMAND),
-    (["store", "drop", "a"], COMMAND),
-    (["store", "refs"], COMMAND),
     (["store", "audit"], COMMAND),
+    (["store", "Drop", "a"], COMMAND),
+    (["store", "drops", "a"], COMMAND),
+    (["store", "drop a"], COMMAND),
+    (["store", "ref"], COMMAND),
+    (["store", "Refs"], COMMAND),
+    (["drop", "a"], COMMAND),
+    (["refs"], MISSING),
     (["store", "list", "a"], KEY),
     (["store", "list", "bits=9"], KEY),
     (["store", "list", ""], KEY),
@@ -118,15 +123,31 @@ WRONG_WORDS = [
     (["store", "init", *ALL_KEYS, "init"], "6: key"),
     (["store", "ingest"], NO_NAME),
     (["store", "restore"], NO_NAME),
+    (["store", "drop"], NO_NAME),
+    (["store", "drop", ".x"], NAME),
+    (["store", "drop", "a", "b"], "2: key"),
+    (["store", "drop", "a", ""], "2: key"),
+    (["store", "drop", "a", "bits=9"], "2: key"),
+    (["store", "drop", ".a", "b"], NAME),
+    (["store", "drop", b"a\xff"], COMMAND),
+    (["store", "refs", "x"], KEY),
+    (["store", "refs", ""], KEY),
+    (["store", "refs", "refs"], KEY),
+    (["store", "refs", "bits=9"], KEY),
     (["store", "ingest", "a", "b"], "2: key"),
     (["store", "restore", "a", "b"], "2: key"),
     (["store", "restore", "a", ""], "2: key"),
     (["store", "restore", "a", "bits=9"], "2: key"),
     (["store", "ingest", "a", "bits=9"], "2: key"),
     (["store", "ingest", "a", "seed=1"], "2: key"),
-    # Keys of an ingest are not built.
-    (["store", "ingest", "a", "workers=2"], "2: key"),
-    (["store", "ingest", "a", "segment=65536"], "2: key"),
+    (["store", "ingest", "a", "workers=0"], "2: value"),
+    (["store", "ingest", "a", "workers=65"], "2: value"),
+    (["store", "ingest", "a", "workers=04"], "2: value"),
+    (["store", "ingest", "a", "segment=0"], "2: value"),
+    (["store", "ingest", "a", "segment=268435457"], "2: value"),
+    (["store", "ingest", "a", "workers=4", "segment=1", "workers=0"], "4: twice"),
+    (["store", "ingest", "a", "workers=4", "min=64"], "3: key"),
+    # Two keys of an ingest are not built.
     (["store", "ingest", "a", "batch=65536"], "2: key"),
     (["store", "ingest", "a", "shards=1"], "2: key"),
     # The name is looked at before the words after it.
@@ -156,7 +177,16 @@ WRONG_WORDS = [
     (["store", "plan", "bits =9"], KEY),
     (["store", "plan", "\nbits=9"], KEY),
     (["store", "plan", "ｂits=9"], KEY),
-    (["store", "plan", "workers=2"], KEY),
+    (["store", "plan", "workers=0"], VALUE),
+    (["store", "plan", "workers=65"], VALUE),
+    (["store", "plan", "workers=2", "workers=99"], "2: twice"),
+    (["store", "plan", "workers"], KEY),
+    (["store", "plan", "Workers=2"], KEY),
+    (["store", "plan", "segment=0"], VALUE),
+    (["store", "plan", "segment=268435457"], VALUE),
+    (["store", "plan", "segment=18446744073709551617"], VALUE),
+    (["store", "plan", "batch=65536"], KEY),
+    (["store", "plan", "shards=16"], KEY),
     (["store", "plan", "bits=13", "speed=3"], "2: key"),
     (["store", "plan", "bits=13", "bits=99"], "2: twice"),
     (["store", "plan", "bits=13", "max=0", "bits=x"], "3: twice"),
@@ -275,7 +305,7 @@ BAD_NAMES = [
 @test
 def names_that_are_none_are_refused():
     def expect_row(name):
-        for command in ("ingest", "restore"):
+        for command in ("ingest", "restore", "drop"):
             expect_early_refusal([STORE, command, name], f"bad words at {NAME}")
 
     each_row(((name,) for name in BAD_NAMES), expect_row)
@@ -285,7 +315,7 @@ def names_that_are_none_are_refused():
 def names_of_every_letter_are_taken():
     letters = string.ascii_letters + string.digits
     for name in [*letters, *(f"a{it}" for it in letters + "._-"), "a" * 64, "A-.-_" * 12]:
-        for command in ("ingest", "restore"):
+        for command in ("ingest", "restore", "drop"):
             expect_early_refusal([STORE, command, name], "no store")
 
 
