@@ -23,8 +23,7 @@ use session_book::encode_record;
 
 impl<N: Namer> Store<N> {
     /// Drops the live session of a name, and returns how many places it had. Its chunks stay stored.
-    /// A record of 41 bytes and one byte of the seal are written, whatever the size of the store, and
-    /// no container is read.
+    /// A record of 41 bytes and one byte of the seal are written, whatever the size of the store.
     ///
     /// `NoSession` is returned exactly if no live session has the name, and then nothing has changed.
     /// `ShelfFault` is returned only if the shelf's count of faults rose. After it, and if memory runs
