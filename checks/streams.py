@@ -249,7 +249,7 @@ def input_that_memory_does_not_hold_is_refused():
 
 @test
 def text_that_memory_does_not_hold_is_not_begun():
-    words, length = [*PLAN, "min=48", "max=48"], 4_000_000
+    words, length = [*PLAN, "min=48", "max=48", "workers=1"], 4_000_000
     lines = reference.lines_of(bytes(length), [48] * (length // 48) + [length % 48])
     statuses = set()
     for kibibytes in range(8_000, 36_000, 4_000):
