@@ -11,7 +11,7 @@ use edge_traits::{Shelf, Sink};
 use sd_base::{Name, Outcome};
 use std::alloc::Global;
 
-/// Opens the store, and writes the bytes of the live session of a name, chunk after chunk.
+/// Opens the store, and writes the bytes of the live session of a name, piece after piece.
 pub fn restore<K: Sink, F: Shelf>(
     alloc: Global,
     name: &Name,
