@@ -4,11 +4,12 @@ The calls are seen by strace. If it cannot be used, the tests are not tried.
 """
 
 import re
+import subprocess
 from dataclasses import replace
 from random import Random
 
 from folders import COMMANDS, FOLDER, LONG, TEXT, with_ingest, with_tails
-from harness import Mismatch, expect_same
+from harness import PROGRAM, Mismatch, expect_same
 from reference import DEFAULTS, SPARSE_ZERO, keys_of
 from reference_store import (
     MAX_CHUNK,
@@ -202,3 +203,31 @@ def chunks_cost_one_call_each():
 def expect_at_most(what, most, came):
     if len(came) > most:
         raise Mismatch(f"{what}: wanted at most {most}, came {len(came)}")
+
+
+def threads_of(words, text):
+    """How many threads a run starts."""
+    command = ["strace", "-f", "-o", "trace", "-e", "trace=clone,clone3", PROGRAM, *words]
+    subprocess.run(command, input=text, stdout=subprocess.DEVNULL, check=True)
+    with open("trace") as trace:
+        return sum("CLONE_THREAD" in line for line in trace)
+
+
+@traced_test
+def workers_are_threads():
+    """One worker starts none. Three start at least two a stage, and of one segment name alone."""
+    text = Random(43).randbytes(9000)
+    files = {}
+    init(files, replace(DEFAULTS, bits=4, target=3, min=48, max=300))
+    plan = ["plan", "bits=4", "target=3", "min=48", "max=300"]
+    for words in (plan, ["ingest", "n"]):
+        for keys, least, most in (
+            (["workers=1", "segment=1000"], 0, 0),
+            (["workers=3", "segment=1000"], 4, 6),
+            (["workers=3", "segment=9000"], 2, 3),
+            (["segment=1000"], 6, 8),
+        ):
+            write_files(FOLDER, files)
+            came = threads_of([FOLDER, *words, *keys], text)
+            if not least <= came <= most:
+                raise Mismatch(f"{words} {keys}: wanted {least} to {most} threads, came {came}")

@@ -5,6 +5,7 @@ from random import Random
 
 from folders import (
     FOLDER,
+    LONG,
     TEXT,
     Twin,
     expect_files,
@@ -27,11 +28,14 @@ from harness import (
 from reference import SPARSE_ZERO, Params, keys_of
 from reference_store import (
     KNOWN_DROP,
+    MAX_CHUNK,
     MAX_SESSIONS,
     Ingest,
+    NewChunk,
     chunks_of,
     files_in,
     init,
+    pack,
     spelling_of,
     twice,
     write_files,
@@ -249,3 +253,55 @@ def commands_without_input_read_none():
         with file_of(b"abc") as source:
             run([FOLDER, *words], source, changes=FOLDER)
             expect_same(f"bytes that {words} took", 0, position_of(source))
+
+
+def store_of(chunks, recipes):
+    """The files of a store whose sessions s0, s1, .. have these recipes, the first all chunks."""
+    files = {}
+    init(files, LONG)
+    pack(files, 0, [], chunks)
+    fresh, records = [NewChunk(len(it), sha256(it).digest()) for it in chunks], []
+    for number, recipe in enumerate(recipes):
+        length = sum(len(chunks[it]) for it in recipe)
+        records.append(spelling_of(Ingest(b"s%d" % number, length, fresh, recipe)))
+        fresh = []
+    return files | {"seal.0": b"S" * len(records), "book.0": b"".join(records)}
+
+
+@test
+def many_places_sessions_and_chunks_are_counted():
+    """Counts of more than 16 bits, more sessions than a byte counts, and a text of many pieces."""
+    few = [b"a" * 60, b"b" * 60]
+    many = [b"%048d" % number for number in range(20_000)]
+    large = [bytes([number]) * MAX_CHUNK for number in range(5)]
+    rows = [
+        (few, [[0, 1], [1] * 70_000, [0] * 300], ["s1", "s2"]),
+        (few, [[0, 1]] + [[1]] * 300, ["s300", "s0"]),
+        (many, [list(range(20_000)), [19_999, 0]], ["s0"]),
+        (large, [[0, 1, 2, 3, 4], [4, 4]], ["s1", "s0"]),
+    ]
+
+    def expect_row(chunks, recipes, names):
+        twin = Twin(store_of(chunks, recipes))
+        twin.refs()
+        for name in names:
+            twin.drop(name)
+            twin.refs()
+            twin.list()
+
+    each_row(rows, expect_row)
+
+
+@test
+def damaged_chunks_are_counted_and_dropped():
+    """Neither command reads a chunk, so what the containers hold does not matter to them."""
+    files = twice()
+    container = files["container.0.0"]
+    for offset in (0, 8, 71, 72, 79):
+        other = bytes([container[offset] ^ 1])
+        changed = container[:offset] + other + container[offset + 1 :]
+        twin = Twin(files | {"container.0.0": changed})
+        twin.refs()
+        twin.drop("a")
+        twin.refs()
+        twin.list()

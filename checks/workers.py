@@ -87,3 +87,25 @@ def keys_of_workers_come_in_any_order_beside_others():
     keys = [*keys_of(SPARSE_ZERO), *keys_of_workers(3, 50)]
     for seed in range(20):
         expect(run([STORE, "plan", *Random(seed).sample(keys, len(keys))], text), output=wanted)
+
+
+@test
+def drawn_workers_and_segments_change_nothing():
+    draw = Random(66)
+    params, text = replace(DEFAULTS, bits=8, target=3, min=256, max=4096), draw.randbytes(200_000)
+    wanted = reference.plan(params, text)
+    expect(run([STORE, "plan", *keys_of(params)], text), output=wanted)
+    before = new_twin(params)
+    after = dict(before.files)
+    line = wanted_run(ingest, after, b"a", text)
+
+    def expect_row(workers, segment):
+        keys = keys_of_workers(workers, segment)
+        expect(run([STORE, "plan", *keys_of(params), *keys], text), output=wanted)
+        write_files(FOLDER, before.files)
+        expect(run([FOLDER, "ingest", "a", *keys], text, changes=FOLDER), *line)
+        expect_files(after, files_in(FOLDER))
+
+    workers = draw.sample(range(1, 65), 30)
+    segments = [draw.choice([draw.randint(40, 300), draw.randint(300, 99_999)]) for _ in workers]
+    each_row(zip(workers, segments), expect_row)
