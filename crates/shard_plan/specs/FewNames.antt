@@ -1,0 +1,10 @@
+-- Names of which there are only three, for tests.
+use Rattle.std.specs.Prelude.{◌≡◌, ℕ, ◌%◌, List, length, replicate}
+use Rattle.std.proofs.Common.{refl}
+
+-- the number of bytes modulo 3, 32 times
+abbrev pub few_name : List ℕ → List ℕ
+few_name bytes = replicate 32 (length bytes % 3)
+
+pub length-few_name : (bytes : List ℕ) → length (few_name bytes) ≡ 32
+length-few_name bytes = refl

@@ -1,0 +1,12 @@
+-- The leader of a chunk: the first chunk of a list with the same bytes. No name enters. All rules
+-- here are this project's own.
+use Rattle.std.specs.Prelude.{ℕ, List, [], map, slice_index_or}
+use Rattle.sd_base.specs.Distinct.{first_index}
+
+-- the leader of chunk i: the least index of a chunk with its bytes
+abbrev pub leader_of : List (List ℕ) → ℕ → ℕ
+leader_of chunks i = first_index chunks (slice_index_or chunks i [])
+
+-- the leader of each chunk
+abbrev pub leaders_of : List (List ℕ) → List ℕ
+leaders_of chunks = map (first_index chunks) chunks

@@ -1,0 +1,14 @@
+-- the chunks of a text with their names
+pub mod Items
+-- what an `Items` keeps in memory
+pub mod ItemFields
+-- the shards of names, and how many items each has
+pub mod Shards
+-- what a `ShardPlan` keeps in memory
+pub mod RegionFields
+-- the first item with the same bytes
+pub mod Leaders
+-- pairs of a name and a number, sorted, and the leaders of a run of equal names
+pub mod Runs
+-- names of which there are only three, for tests
+pub mod FewNames
