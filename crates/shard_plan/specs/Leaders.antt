@@ -14,5 +14,6 @@ abbrev pub leaders_of : List (List ℕ) → List ℕ
 leaders_of chunks = map (first_index chunks) chunks
 
 -- the leaders of the chunks `x`, `x`, `y`, `x`
-pub leaders_of-xxyx : leaders_of (chunks_between (codes "xxyx") 0 (1 ∷ 2 ∷ 3 ∷ 4 ∷ [])) ≡ 0 ∷ 0 ∷ 2 ∷ 0 ∷ []
+pub leaders_of-xxyx : leaders_of (chunks_between (codes "xxyx") 0 (1 ∷ 2 ∷ 3 ∷ 4 ∷ []))
+    ≡ 0 ∷ 0 ∷ 2 ∷ 0 ∷ []
 leaders_of-xxyx = refl

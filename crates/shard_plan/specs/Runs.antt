@@ -1,5 +1,5 @@
--- Pairs of an item's name and its number, sorted, and the leaders of a run of equal names. All rules
--- here are this project's own.
+-- Pairs of an item's name and its number, sorted, and the leaders of a run of equal names. All
+-- rules here are this project's own.
 use Rattle.std.specs.Prelude.{◌≡◌, ◌≢◌, ℕ, suc, ◌<◌, ◌≤◌, List, [], All, Contains, IsSorted, length, slice_index_or}
 use Rattle.std.specs.Cmp.Lexicographic.{slice_cmp}
 use Rattle.std.specs.Ordering.{nat_cmp, ordering_then}

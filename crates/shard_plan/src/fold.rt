@@ -13,8 +13,8 @@ use std::thread::Threads;
 
 /// For each item the least item with the same bytes, its leader. The names are sorted in several
 /// threads, each with the number of its item; no bytes of chunks are moved. Items of one name are
-/// then compared with the leaders found among them, by their bytes. It fails only if memory runs
-/// out.
+/// then compared with the leaders found among them, by their bytes. The plan is that of the items,
+/// and this way of finding the leaders does not read it. It fails only if memory runs out.
 pub fn leaders_by_fold<H: Threads + Sync>(
     rt: &H,
     alloc: Global,

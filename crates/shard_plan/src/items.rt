@@ -30,8 +30,8 @@ impl<'a> Model for Items<'a> {
 }
 
 impl<'a> Items<'a> {
-    /// The chunks of a text with these ends, the first of which begins at `start`. There is one name
-    /// for each, and chunks of equal bytes have equal names.
+    /// The chunks of a text with these ends, the first of which begins at `start`. There is one
+    /// name for each, and chunks of equal bytes have equal names.
     pub fn new(text: &'a [u8], start: u32, ends: &'a [u32], names: &'a [[u8; 32]]) -> Items<'a>
         requires fits { length text.now ≤ MAX_INPUT }
         requires rise { RiseWithin start (length text.now) ends.now }

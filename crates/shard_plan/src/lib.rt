@@ -3,8 +3,8 @@
 //! `leaders_by_fold` finds for each chunk the first one with its bytes, by a parallel sort of the
 //! names.
 //!
-//! Names are never trusted: two chunks are the same only if their bytes are. All rules here are this
-//! project's own. The crate uses `sd_base`, `chunk_names` in tests, and `rayon` for the sort.
+//! Names are never trusted: two chunks are the same only if their bytes are. All rules here are
+//! this project's own. The crate uses `sd_base`, `chunk_names` in tests, and `rayon` for the sort.
 #![tactic(auto)]
 
 mod fold;
