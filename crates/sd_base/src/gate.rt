@@ -14,7 +14,8 @@ pub enum Stage {
 /// What a worker calls as it begins a piece of work, so that a test can see that pieces run at the
 /// same time. Stages, batches and pieces are counted from 0.
 pub trait Gate: Sync {
-    /// A piece of a batch begins. The call returns, and changes nothing that a clause speaks of.
+    /// A piece of a batch begins. An implementation may note this or wait for another piece; what the
+    /// caller answers must not depend on it.
     fn at(&self, stage: Stage, batch: u32, piece: u32);
 }
 
