@@ -19,7 +19,7 @@ SUBJECTS = {
     "containers": 9,
     "damage": 12,
     "limits": 7,
-    "faults": 17,
+    "faults": 18,
     "store_streams": 6,
     "interruptions": 9,
     "calls": 11,

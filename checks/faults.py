@@ -1,4 +1,4 @@
-"""What a store is worth if a call of the system fails: on folders, files, handles or memory."""
+"""What a store is worth if a call of the system fails: on files, handles, memory or threads."""
 
 import os
 import socket
@@ -16,6 +16,7 @@ from folders import (
     TEXT,
     expect_committed,
     expect_files,
+    wanted_run,
     with_drop,
     with_ingest,
 )
@@ -30,7 +31,7 @@ from harness import (
     test,
 )
 from pipes import limiting_files, with_memory
-from reference import DEFAULTS
+from reference import DEFAULTS, SPARSE_ZERO, keys_of, plan
 from reference_store import (
     OPEN_HEAD,
     files_in,
@@ -389,3 +390,47 @@ def memory_that_is_too_little_leaves_what_was_committed():
         for name in "ab":
             expect(run([FOLDER, "restore", name]), output=bytes(200))
     expect_same("statuses from too little memory to enough", {0, 13}, statuses)
+
+
+# Threads.
+
+# The limit on threads does not hold root back, so another user runs the program. It may open all
+# files, as root may.
+POWERS = ("--inh-caps=+dac_override", "--ambient-caps=+dac_override")
+OTHER_USER = ("setpriv", "--reuid=65534", *POWERS)
+
+
+def with_threads(most):
+    """A starter under which the user of the program has at most so many threads."""
+    user = () if os.geteuid() else OTHER_USER
+    return (*user, "prlimit", f"--nproc={most}")
+
+
+def threads_are_held_back():
+    command = [*with_threads(1), "sh", "-c", ": & wait"]
+    try:
+        return subprocess.run(command, capture_output=True).returncode != 0
+    except FileNotFoundError:
+        return False
+
+
+@test
+def workers_without_threads_do_the_same():
+    """The system starts no thread, or fewer than there are workers."""
+    if not threads_are_held_back():
+        raise NotTried("a limit on threads does not hold the program back")
+    keys, text = ["workers=4", "segment=1000"], Random(45).randbytes(9000)
+    lines, after = plan(SPARSE_ZERO, text), twice()
+    line = wanted_run(ingest, after, b"n", text)
+
+    def expect_row(threads):
+        write_files(FOLDER, twice())
+        starter = with_threads(threads)
+        words = [FOLDER, "plan", *keys_of(SPARSE_ZERO), *keys]
+        expect(run(words, text, starter=starter), output=lines)
+        words = [FOLDER, "ingest", "n", *keys]
+        expect(run(words, text, starter=starter, changes=FOLDER), *line)
+        expect_files(after, files_in(FOLDER))
+        expect(run([FOLDER, "restore", "n"], starter=starter), output=text)
+
+    each_row([(threads,) for threads in (1, 2, 3, 5)], expect_row)
