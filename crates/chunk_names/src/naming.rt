@@ -1,5 +1,5 @@
 //! The chunks of a text are named by workers.
-ghost use Rattle.std.specs.Prelude.{◌≡◌, ◌+◌, ◌*◌, ◌≤◌, ◌<◌, ◌^◌, IfOk, length, map};
+ghost use Rattle.std.specs.Prelude.{◌≡◌, ℕ, ◌+◌, ◌*◌, ◌≤◌, ◌<◌, ◌^◌, IfOk, length, map};
 ghost use Rattle.chunk_names.specs.Shares.{HasNamesOf};
 ghost use Rattle.sd_base.specs.Commands.{AreWorkers};
 ghost use Rattle.sd_base.specs.Cutting.{RiseWithin, chunks_between};
@@ -11,11 +11,10 @@ use sd_base::{Gate, OutOfMemory, Stage};
 use std::alloc::Global;
 use std::thread::{Threads, for_each_chunk_mut};
 
-/// The names of the chunks of a text, in order. Chunk i reaches from the end before it, or from
-/// `start`, to `ends[i]`. Each worker names as many chunks as any other, one after another in the
-/// text, except that the last ones may have fewer or none. Worker w begins with the gate's call for
-/// the batch and piece w. How many workers there are enters no clause on the names. It fails only
-/// if memory runs out.
+/// Names the chunks of a text, in order. The text is cut at `ends`, and the first chunk begins at
+/// `start`. Each worker has a run of neighbouring chunks. All runs are equally long, except that
+/// the last ones may be shorter or empty. A worker first calls the gate, with its own number as the
+/// piece. The names are the same for every number of workers. It fails only if memory runs out.
 #[tactic(auto, using(crate::proofs::Chunks::few_ends))]
 pub fn name_all<H: Threads + Sync, N: Namer, G: Gate>(
     rt: &H,
@@ -85,13 +84,14 @@ fn name_by_shares<H: Threads + Sync, N: Namer, G: Gate>(
     );
 }
 
-// The number of chunks of a worker: all chunks have a worker, and each worker has a place in the
-// list of names, so that it calls the gate.
+// The number of chunks of a worker: all chunks have a worker, no worker has more than it must, and
+// each has a place in the list of names, so that it calls the gate.
 fn share_of(chunks: usize, workers: u32) -> usize
     requires fits { chunks ≤ MAX_INPUT }
     requires workers { AreWorkers workers }
     ensures some { 0 < result }
     ensures enough { chunks ≤ result * workers }
+    ensures least { (share : ℕ) → 0 < share → chunks ≤ share * workers → result ≤ share }
     ensures few { result * workers < 2 ^ 32 }
 {
     chunks.div_ceil(workers as usize).max(1)
