@@ -62,8 +62,9 @@ impl PlainMap {
         self.words[(p / WORD_BITS) as usize] |= 1 << (p % WORD_BITS);
     }
 
-    /// Adds the position `64 * word + b` for each bit b of the mask, and changes nothing else of
-    /// the set. It takes no memory.
+    /// Adds up to 64 positions at once, those of the bits that are set in the mask. The lowest bit
+    /// of the mask is the first position of the word with this number. Nothing else of the set
+    /// changes. It takes no memory.
     pub fn or_word(&mut self, word: u32, mask: u64)
         requires word_inside { WORD_BITS * word < length self.old }
         requires bits_inside { (b : ℕ) → bit_at mask b ≡ 1

@@ -30,11 +30,11 @@ struct Work<'a, G> {
     ghost workers_in_range: { AreWorkers workers },
 }
 
-/// The map of the candidates of a text, found by workers. Segment k has the positions above
-/// `k * segment` up to and including `(k + 1) * segment`; its first windows begin in the segment
-/// before it. Worker `k mod workers` scans segment k, and calls the gate as it begins it. Each
-/// worker marks a map of its own, and the maps are put together by words. It fails only if memory
-/// runs out.
+/// Finds the candidates of a text by workers. The positions from 1 on are divided into segments of
+/// `segment` positions, and the workers take the segments in turn: of three workers, the first scans
+/// segments 0, 3, 6 and so on. A worker calls the gate before it scans a segment. The first windows
+/// of a segment begin in the segment before it. Each worker has a map of its own, and the maps are
+/// merged word by word. It fails only if memory runs out.
 pub fn scan_all<H: Threads + Sync, G: Gate>(
     rt: &H,
     alloc: Global,

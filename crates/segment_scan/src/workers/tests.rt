@@ -32,23 +32,19 @@ impl Gate for Noting {
     }
 }
 
-/// A gate that holds each of the first two segments until the other has begun, and notes if it has
-/// waited for too long.
+/// A gate that holds each of four segments until all four have begun, and notes if it has held one
+/// for too long.
 #[derive(Drop)]
 struct Holding {
-    begun: [AtomicBool; 2],
+    begun: AtomicU64,
     gave_up: AtomicBool,
 }
 
 impl Gate for Holding {
     fn at(&self, stage: Stage, batch: u32, piece: u32) {
-        if piece > 1 {
-            return;
-        }
-        let other = 1 - piece;
-        self.begun[piece as usize].store(true, Ordering::SeqCst);
+        self.begun.fetch_or(1 << (piece % 64), Ordering::SeqCst);
         for _ in 0..50_000_000u32 {
-            if self.begun[other as usize].load(Ordering::SeqCst) {
+            if self.begun.load(Ordering::SeqCst) == 15 {
                 return;
             }
             thread::yield_now();
@@ -154,17 +150,15 @@ fn the_gate_is_called_once_for_each_segment(rt: HostRuntime) -> Result<(), Fail>
 }
 
 #[test]
-fn two_workers_scan_at_the_same_time(rt: HostRuntime) -> Result<(), Fail> {
+fn four_workers_scan_at_the_same_time(rt: HostRuntime) -> Result<(), Fail> {
     let params = Params::new(POLYNOMIAL, 13, 0, 64, 256)?;
     let gate = Holding {
-        begun: [AtomicBool::new(false), AtomicBool::new(false)],
+        begun: AtomicU64::new(0),
         gave_up: AtomicBool::new(false),
     };
-    let map = scan_all(&rt, rt.alloc(), &params, &[0; 4096], 1024, 2, 0, &gate)?;
+    let map = scan_all(&rt, rt.alloc(), &params, &[0; 4096], 1024, 4, 0, &gate)?;
     assert_eq!(rt; map.next_from(0), Some(48));
-    for begun in &gate.begun {
-        assert!(rt; begun.load(Ordering::SeqCst));
-    }
+    assert_eq!(rt; gate.begun.load(Ordering::SeqCst), 15);
     assert!(rt; !gate.gave_up.load(Ordering::SeqCst));
     Ok(())
 }
