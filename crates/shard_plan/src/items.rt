@@ -6,9 +6,9 @@ ghost use Rattle.shard_plan.specs.Items.{AreNamed, chunk_of, name_of};
 
 use std::marker::Model;
 
-/// The chunks of a text, each with its name. Item i is chunk i: it reaches from the end before it,
-/// or from the start, to its own end. A clause sees the list of the chunks and the list of the
-/// names. Nothing here takes memory.
+/// The chunks of a text and their names. Items are numbered as the chunks lie in the text. Only the
+/// cuts are kept, so an item's bytes are read out of the text. A clause sees the list of the chunks
+/// and the list of the names. Nothing here takes memory.
 #[derive(Drop)]
 pub struct Items<'a> {
     text: &'a [u8],
@@ -30,8 +30,8 @@ impl<'a> Model for Items<'a> {
 }
 
 impl<'a> Items<'a> {
-    /// The chunks of a text with these ends, the first of which begins at `start`. There is one
-    /// name for each, and chunks of equal bytes have equal names.
+    /// Cuts a text at `ends`, from `start` on, and pairs the chunks with their names. Equal chunks
+    /// need equal names. Different chunks may share one.
     pub fn new(text: &'a [u8], start: u32, ends: &'a [u32], names: &'a [[u8; 32]]) -> Items<'a>
         requires fits { length text.now ≤ MAX_INPUT }
         requires rise { RiseWithin start (length text.now) ends.now }
