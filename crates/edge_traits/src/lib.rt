@@ -57,6 +57,8 @@ mod faulty_files;
 #[cfg(test)]
 mod folder_tests;
 #[cfg(test)]
+mod shelf_steps;
+#[cfg(test)]
 mod shelf_tests;
 #[cfg(test)]
 mod std_tests;
