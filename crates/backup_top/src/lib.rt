@@ -13,6 +13,7 @@ mod ingest;
 mod ingest_text;
 mod init;
 mod keys;
+mod line_fields;
 mod list;
 mod list_text;
 mod name_digits;

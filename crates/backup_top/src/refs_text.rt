@@ -4,19 +4,24 @@ ghost use Rattle.sd_base.specs.References.{live_book_places};
 ghost use Rattle.sd_base.specs.Rows.{book_chunk_rows, reference_rows_of_book};
 ghost use Rattle.sd_base.specs.Texts.{refs_line, refs_text};
 
-use crate::name_digits::{digits_of, text_of_digits};
+use crate::line_fields::{push_name, push_number};
 use chunk_names::Sha256Namer;
-use sd_base::{NewChunk, OutOfMemory};
+use sd_base::{DIGEST_LEN, NewChunk, OutOfMemory};
 use std::alloc::Global;
 use store_core::Store;
+
+/// The bytes of the longest line: by the limits of a store its numbers have at most 7, 8 and 7
+/// digits. Room is taken for all lines at once, since a text that grows is moved.
+const MAX_LINE: usize = 7 + 8 + 7 + 2 * DIGEST_LEN + 4;
 
 /// The text of `refs`: a line for each stored chunk, in the order of their numbers. It fails only if
 /// memory runs out.
 pub fn text_of_refs(alloc: Global, store: &Store<Sha256Namer>) -> Result<String, OutOfMemory>
     ensures { IfOk result (λ lines. string_bytes lines ≡ refs_text (reference_rows_of_book store.now.opened.book)) }
 {
-    let mut lines = String::new(alloc);
-    for number in 0..store.book().chunk_count() {
+    let chunks = store.book().chunk_count();
+    let mut lines = String::with_capacity(alloc, chunks as usize * MAX_LINE)?;
+    for number in 0..chunks {
         push_chunk(&mut lines, store, number)?;
     }
     Ok(lines)
@@ -56,9 +61,8 @@ fn push_line(
       name = chunk.now.name;
     })) }
 {
-    let digits = digits_of(&chunk.name);
-    let name = text_of_digits(&digits);
-    let length = chunk.length;
-    writeln!(lines, "{number} {count} {length} {name}")?;
-    Ok(())
+    push_number(lines, number)?;
+    push_number(lines, count)?;
+    push_number(lines, chunk.length)?;
+    push_name(lines, &chunk.name)
 }
