@@ -1,5 +1,5 @@
 -- A run of `drop`: the store is opened, the text is made, and then the session is dropped.
-use Rattle.std.proofs.Common.{◌≡◌, inl, inr, ℕ, zero, suc, Bool, List, [], ◌∷◌, ◌++◌, length, refl, ap, sym, subst, ◌∙◌}
+use Rattle.std.proofs.Common.{◌≡◌, inl, inr, ℕ, zero, suc, Bool, false, List, [], ◌∷◌, ◌++◌, length, refl, ap, sym, subst, ◌∙◌}
 use Rattle.std.proofs.lemmas.List.{length-map}
 use Rattle.std.specs.List.{slice_get}
 use Rattle.std.specs.Option.{option_and_then}
@@ -17,6 +17,7 @@ use Rattle.sd_base.specs.Stores.{AreClean, Hold, HoldState}
 use Rattle.sd_base.specs.Texts.{dropped_text}
 use Rattle.sd_base.specs.declared.damage.Damage.{Damage}
 use Rattle.sd_base.specs.declared.file.File.{File}
+use Rattle.sd_base.specs.declared.file.File.TheVariants.{Book, Seal}
 use Rattle.sd_base.specs.declared.outcome.Outcome.{Outcome}
 use Rattle.sd_base.specs.declared.outcome.Outcome.TheVariants.{Done, NoStore, NoSession, Damaged, ShelfFault, SinkFault, OutOfMemory}
 use Rattle.sd_base.specs.declared.record.Session.{Session}
@@ -34,7 +35,7 @@ use Rattle.store_core.proofs.RestoreLemmas.{found-there}
 use Rattle.store_core.proofs.StoreLemmas.{same-told}
 use Rattle.backup_top.specs.ByRecords.{places_named}
 use Rattle.backup_top.specs.Outcomes.{EndsAs, IsBroken, IsDamage, IsEarly, IsOneOf, IsSilent, LeavesStore}
-use Rattle.backup_top.specs.Run.{AreHeld, KeepsFiles, MayReturn, OpensFirst, StayClean}
+use Rattle.backup_top.specs.Run.{AreFlushed, AreHeld, KeepsFiles, MayReturn, OpensFirst, StayClean}
 use Rattle.backup_top.specs.Steps.{DropsByBook, DropsFrom, IsUnmade, Made, MakesStoreOf, MakesText, MakesTextOf, MayEnd, OpensOn, OpensStore, after_drop}
 use Rattle.backup_top.proofs.Lists.{NeedsStore, leaves_broken, opening_refused, opens_fully, records_of_store}
 use Rattle.backup_top.proofs.Openings.{fault_is, fault_of, in_error, refused_with, still_held}
@@ -155,6 +156,11 @@ broken-by_book name ending opened broken = record {
   found = found-broken name ending (places_named opened.book.sessions name) broken;
 }
 
+-- a run that made no text is not done, and its write did not fail
+unwritten : (ending : Outcome) → IsUnmade ending → (ending ≡ Done) ⊎ (ending ≡ SinkFault) → ⊥
+unwritten ending unmade (inl is) = subst IsUnmade is unmade
+unwritten ending unmade (inr is) = subst IsUnmade is unmade
+
 module _ {F : Type 0} (name : List ℕ) (files_of : F → Option (File → List ℕ)) (loose : F → File → Bool)
     (faults : F → ℕ) (faultless : F → Type 0) where
   abbrev Pass-of : State → Pass
@@ -164,7 +170,7 @@ module _ {F : Type 0} (name : List ℕ) (files_of : F → Option (File → List 
   drop_needs before after = record {
     needs = λ state held. held;
     among = drop-among name;
-    shelf = λ ending kept refused. kept;
+    shelf = λ ending unmade kept. record { refused = λ _. kept; flushed = λ is. absurd (unwritten ending unmade is) };
     verdict = λ ending opens. opens;
     broken = broken-by_book name;
   }
@@ -275,7 +281,11 @@ module _ {F : Type 0} (name : List ℕ) (files_of : F → Option (File → List 
       unmade = tt;
       among = λ ending ends. inl ((of_write ending ends).among (NoStore ∷ ShelfFault ∷ NoSession ∷ []));
       counts = counted (Ok text) drops;
-      shelf = λ ending ends refused. absurd (written ending ends refused);
+      shelf = λ ending ends. record {
+        refused = λ refused. absurd (written ending ends refused);
+        flushed = λ _ o. records_of_store (λ other. AreFlushed other.head.generation (loose after)) (files_of before) opened o
+            opens.opened drops.flushed;
+      };
       verdict = λ ending ends. opens-first ending (of_write ending ends).store (of_write ending ends).sound;
       by_records = λ o. records_of_store (λ other. DropsByBook other name (Ok text)) (files_of before) opened o opens.opened drops.by_book;
     } where
@@ -295,13 +305,16 @@ module _ {F : Type 0} (name : List ℕ) (files_of : F → Option (File → List 
       on_state = λ state needs. (refused-on state needs, λ early. absurd (late state early));
       held = held-told (Err ending) drops;
       clean = tt;
-      unmade = ending-is ending drops.refused IsUnmade tt tt tt;
+      unmade = unmade;
       among = λ other ends. subst (MayReturn (Ok (quiet (Drop name)))) (sym ends)
           (ending-is ending drops.refused (MayReturn (Ok (quiet (Drop name))))
           (inl (inr (inr (inr (inr (inl refl)))))) (inl (inr (inr (inl refl)))) (inl (inr (inr (inr (inr (inr (inl refl))))))));
       counts = counted (Err ending) drops;
-      shelf = λ other ends refused. kept ending drops.refused drops
-          (subst (λ (o : Outcome). IsOneOf (NoStore ∷ NoSession ∷ []) o ⊎ IsDamage IsOfOpening o) ends refused);
+      shelf = λ other ends. record {
+        refused = λ refused. kept ending drops.refused drops
+            (subst (λ (o : Outcome). IsOneOf (NoStore ∷ NoSession ∷ []) o ⊎ IsDamage IsOfOpening o) ends refused);
+        flushed = λ is. absurd (unwritten other (subst IsUnmade (sym ends) unmade) is);
+      };
       verdict = λ other ends. opens-first other
           (λ is. ending-is ending drops.refused (λ (o : Outcome). o ≡ NoStore → ⊥) (λ clash. absurd cc) (λ clash. absurd cc)
           (λ clash. absurd cc) (sym ends ∙ is))
@@ -309,6 +322,9 @@ module _ {F : Type 0} (name : List ℕ) (files_of : F → Option (File → List 
           (λ clash. absurd cc) (λ clash. absurd cc) (sym ends ∙ is));
       by_records = λ o. records_of_store (λ other. DropsByBook other name (Err ending)) (files_of before) opened o opens.opened drops.by_book;
     } where
+      unmade : IsUnmade ending
+      unmade = ending-is ending drops.refused IsUnmade tt tt tt
+
       refused-on : (state : Option State) → AreHeld (files_of before) state → EndsAs (in_store Pass-of state).outcome ending
       refused-on None held = absurd (opens.on_state None held)
       refused-on (Some state) held = stands-told (λ (s : State). EndsAs (Pass-of s).outcome ending) state held
@@ -340,6 +356,7 @@ module _ {F : Type 0} (name : List ℕ) (files_of : F → Option (File → List 
         found = subst (λ (found : Option ℕ). IfSome found (λ places. ⊤ × IsBroken NoSession)) (sym none) tt;
       };
       kept = λ _. record { same_files = λ f. refl; same_loose = λ f. refl };
+      flushed = tt;
       held = λ state. nothing-held NoSession state (files_of shelf) (λ files holds. holds);
       clean = tt;
       counts = uncalled _ faults faultless shelf (λ clash. absurd cc);
@@ -351,6 +368,7 @@ module _ {F : Type 0} (name : List ℕ) (files_of : F → Option (File → List 
       refused = inl (inr refl);
       by_book = broken-by_book name OutOfMemory opened.opened (inr refl);
       kept = λ clash. absurd cc;
+      flushed = tt;
       held = λ state. nothing-held OutOfMemory state (files_of shelf) (λ files holds. inl holds);
       clean = tt;
       counts = uncalled _ faults faultless shelf (λ clash. absurd cc);
@@ -359,6 +377,8 @@ module _ {F : Type 0} (name : List ℕ) (files_of : F → Option (File → List 
     -- what dropping the live session of the name promises
     pub record Promised (before after : F) (result : Result ℕ StoreFault) : Type 0 where
       pub late : OnErr result (OnlyFails result)
+      pub flushed : OnOk result (loose after (Book opened.opened.head.generation) ≡ false)
+      pub sealed : OnOk result (loose after (Seal opened.opened.head.generation) ≡ false)
       pub held : (state : State) → IfSome (files_of before) (λ files. StandsFor sha256 opened files state []
           → IfSome (files_of after) (λ then. OnOk result (Hold sha256 then (after_drop name state))
           × OnErr result (Hold sha256 then (Some state) ⊎ Hold sha256 then (after_drop name state))))
@@ -398,6 +418,7 @@ module _ {F : Type 0} (name : List ℕ) (files_of : F → Option (File → List 
         found = subst (λ (found : Option ℕ). IfSome found (λ n. (string_bytes text ≡ dropped_text name n) × ⊤)) (sym some) (is, tt);
       };
       kept = λ clash. absurd cc;
+      flushed = (promised.flushed, promised.sealed);
       held = λ state. map-held state _ _ (map-after _ _ (λ then held. held.0) (files_of after)) (files_of before) (promised.held state);
       clean = promised.clean;
       counts = counted_as _ _ faults faultless before after (λ clash. absurd cc) promised.counts;
@@ -415,6 +436,7 @@ module _ {F : Type 0} (name : List ℕ) (files_of : F → Option (File → List 
           refused = inl broken;
           by_book = broken-by_book name (outcome_of_store fault) opened.opened broken;
           kept = λ is. absurd (broken-kept (outcome_of_store fault) broken (no-session-is (outcome_of_store fault) (in_error is)));
+          flushed = tt;
           held = λ state. map-held state _ _
               (λ held. leaves_broken (outcome_of_store fault) (Some state) (after_drop name state) (files_of after) broken
               (map-after _ _ (λ then parts. parts.1) (files_of after) held))
@@ -496,6 +518,8 @@ module _ {F : Type 0} (name : List ℕ) (files_of : F → Option (File → List 
       subst (λ (s : Option State). OnOk result (IfSome (files_of after) (λ then. AreClean sha256 then s))) is.1 (holds stands is.0 clean)
 
   pub promised : ((session : ℕ) → live_session opened.opened.book.sessions name ≡ Some session → OnErr result (OnlyFails result))
+      → OnOk result (loose after (Book opened.opened.head.generation) ≡ false)
+      → OnOk result (loose after (Seal opened.opened.head.generation) ≡ false)
       → ((state : State) (session : ℕ) → IfSome (files_of before) (λ files. StandsFor sha256 opened files state []
       → live_session_named (sessions_in state) name ≡ Some session → IfSome (files_of after) (Stands state session)))
       → ((state : State) (session : ℕ) → IfSome (files_of before) (λ files. StandsFor sha256 opened files state []
@@ -503,8 +527,10 @@ module _ {F : Type 0} (name : List ℕ) (files_of : F → Option (File → List 
       → OnOk result (IfSome (files_of after) (λ then. AreClean sha256 then (Some (followed_by_event state (dropped session)))))))
       → CountsFaults (result ≡ Err store.ShelfFault) faults faultless before after
       → Promised name files_of loose faults faultless opened before after result
-  promised late stands clean counts = record {
+  promised late flushed sealed stands clean counts = record {
     late = late number (some-named opened.opened.book.sessions name places some).1;
+    flushed = flushed;
+    sealed = sealed;
     held = λ state. held-of state (files_of before) (stands state number);
     clean = λ state. clean-of state (files_of before) (clean state number);
     counts = counts;

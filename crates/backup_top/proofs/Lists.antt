@@ -127,7 +127,7 @@ pub record NeedsStore {F : Type 0} (command : Result Command Refusal) (files_of 
   pub among : (ending : Outcome)
       → IsOneOf (Done ∷ SinkFault ∷ OutOfMemory ∷ NoStore ∷ ShelfFault ∷ []) ending ⊎ IsDamage IsOfOpening ending
       → MayReturn command ending
-  pub shelf : (ending : Outcome) → KeepsFiles files_of loose before after
+  pub shelf : (ending : Outcome) → IsUnmade ending → KeepsFiles files_of loose before after
       → LeavesShelf command ending files_of loose before after
   pub verdict : (ending : Outcome) → IfSome (files_of before) (OpensFirst (λ flaw. ⊥) ending)
       → GoesByVerdict command ending (files_of before)
@@ -192,7 +192,7 @@ module _ {F : Type 0} (command : Result Command Refusal) (files_of : F → Optio
         among = λ outcome ends. subst (MayReturn command) (sym ends) (needs_store.among ending of.listed);
         counts = counted_as _ _ faults faultless before after
             (λ is. ap (λ (e : Outcome). let r : Result StoreState Outcome = Err e in r) (in_error is)) opens.counts;
-        shelf = λ outcome ends. needs_store.shelf outcome opens.kept;
+        shelf = λ outcome ends. needs_store.shelf outcome (subst IsUnmade (sym ends) of.unmade) opens.kept;
         verdict = λ outcome ends. needs_store.verdict outcome
             (subst (λ (o : Outcome). IfSome (files_of before) (OpensFirst (λ flaw. ⊥) o)) (sym ends) opens.refused.1);
         by_records = λ o. records_refused command (files_of before) o ending (needs_store.broken ending o)
@@ -216,7 +216,7 @@ module _ {F : Type 0} (command : Result Command Refusal) (files_of : F → Optio
     among = λ outcome ends. needs_store.among outcome (inl (inr (inr (inl (ends ∙ refused)))));
     counts = counted_as _ _ faults faultless before after
         (λ is. absurd (let clash : OutOfMemory ≡ ShelfFault = sym refused ∙ in_error is in cc)) opens.counts;
-    shelf = λ outcome ends. needs_store.shelf outcome opens.kept;
+    shelf = λ outcome ends. needs_store.shelf outcome (subst IsUnmade (sym (ends ∙ refused)) tt) opens.kept;
     verdict = λ outcome ends. needs_store.verdict outcome (opens_fully (files_of before) opened outcome opens.opened
         (λ is. let clash : OutOfMemory ≡ NoStore = sym (ends ∙ refused) ∙ is in absurd cc)
         (λ flaw is. let clash : OutOfMemory ≡ Damaged flaw = sym (ends ∙ refused) ∙ is in absurd cc));
@@ -248,6 +248,8 @@ module _ (text_of_state : State → List ℕ) where
     module _ {F : Type 0} (command : Result Command Refusal) (files_of : F → Option (File → List ℕ))
         (loose : F → File → Bool) (faults : F → ℕ) (faultless : F → Type 0) (before after : F)
         (needs_store : NeedsStore command files_of loose before after)
+        (keeps : (ending : Outcome) → KeepsFiles files_of loose before after
+        → LeavesShelf command ending files_of loose before after)
         (by_book : (lines : String Global) (opened : Opened) → string_bytes lines ≡ text_of_book opened.book
         → MakesByRecords command (Ok lines) opened) where
       pub report_made : (opened : StoreState) (made : Made) → OpensStore (Ok opened) files_of loose faults faultless before after
@@ -266,7 +268,7 @@ module _ (text_of_state : State → List ℕ) where
         unmade = tt;
         among = λ outcome ends. needs_store.among outcome (inl ((of_write outcome ends).among (NoStore ∷ ShelfFault ∷ [])));
         counts = counted_as _ _ faults faultless before after (λ clash. absurd cc) opens.counts;
-        shelf = λ outcome ends. needs_store.shelf outcome opens.kept;
+        shelf = λ outcome ends. keeps outcome opens.kept;
         verdict = λ outcome ends. needs_store.verdict outcome (opens_fully (files_of before) opened outcome opens.opened
             (of_write outcome ends).store (of_write outcome ends).sound);
         by_records = λ o. records_of_store (MakesByRecords command (Ok lines)) (files_of before) opened o opens.opened
@@ -284,7 +286,7 @@ module _ {F : Type 0} (files_of : F → Option (File → List ℕ)) (loose : F �
   list_needs = record {
     needs = λ state held. held;
     among = λ ending is. is;
-    shelf = λ ending kept. kept;
+    shelf = λ ending unmade kept. kept;
     verdict = λ ending opens. opens;
     broken = λ ending opened is. (tt, is);
   }
@@ -293,7 +295,7 @@ module _ {F : Type 0} (files_of : F → Option (File → List ℕ)) (loose : F �
   refs_needs = record {
     needs = λ state held. held;
     among = λ ending is. is;
-    shelf = λ ending kept. kept;
+    shelf = λ ending unmade kept. kept;
     verdict = λ ending opens. opens;
     broken = λ ending opened is. (tt, is);
   }
@@ -309,7 +311,8 @@ module _ {F : Type 0} (files_of : F → Option (File → List ℕ)) (loose : F �
       → MakesText (in_store pass_of_list) (Ok (quiet ListSessions)) made files_of loose faults faultless before after
   list_made = report_made (λ state. list_text (rows_of_state state)) (λ book. list_text (rows_of_book book))
       (λ store files state stands. ap list_text (rows-stand store files state stands))
-      (Ok (quiet ListSessions)) files_of loose faults faultless before after list_needs (λ lines opened text. (text, tt))
+      (Ok (quiet ListSessions)) files_of loose faults faultless before after list_needs (λ ending kept. kept)
+      (λ lines opened text. (text, tt))
 
   pub refs_refused : (ending : Outcome) → OpensStore (Err ending) files_of loose faults faultless before after
       → MakesText (in_store pass_of_refs) (Ok (quiet Refs)) (Err ending) files_of loose faults faultless before after
@@ -322,4 +325,5 @@ module _ {F : Type 0} (files_of : F → Option (File → List ℕ)) (loose : F �
       → MakesText (in_store pass_of_refs) (Ok (quiet Refs)) made files_of loose faults faultless before after
   refs_made = report_made (λ state. refs_text (reference_rows_of_state state)) (λ book. refs_text (reference_rows_of_book book))
       (λ store files state stands. ap refs_text (counts-stand store files state stands))
-      (Ok (quiet Refs)) files_of loose faults faultless before after refs_needs (λ lines opened text. (text, tt))
+      (Ok (quiet Refs)) files_of loose faults faultless before after refs_needs (λ ending kept. kept)
+      (λ lines opened text. (text, tt))

@@ -17,7 +17,7 @@ use Rattle.sd_base.specs.States.{IsLawful, State}
 use Rattle.sd_base.specs.Stores.{AreClean, Hold, HoldNoStore}
 use Rattle.sd_base.specs.declared.damage.Damage.{Damage}
 use Rattle.sd_base.specs.declared.file.File.{File}
-use Rattle.sd_base.specs.declared.file.File.TheVariants.{Head, Seal}
+use Rattle.sd_base.specs.declared.file.File.TheVariants.{Book, Head, Seal}
 use Rattle.sd_base.specs.declared.limits.TheConstants.{MAX_INPUT, OPEN_HEAD_LEN}
 use Rattle.sd_base.specs.declared.words.BadWords.{BadWords as Refusal}
 use Rattle.sd_base.specs.declared.words.Command.{Command}
@@ -159,6 +159,20 @@ pub record MakesStore {F : Type 0} (outcome : Outcome) (files_of : F → Option 
   -- On Done and after a failed write both are flushed.
   pub flushed : (outcome ≡ Done) ⊎ (outcome ≡ SinkFault) → (loose after Head ≡ false) × (loose after (Seal 0) ≡ false)
 
+-- the record of a commit and the byte of the seal that commits it are flushed
+abbrev pub AreFlushed : ℕ → (File → Bool) → Type 0
+AreFlushed generation loose = (loose (Book generation) ≡ false) × (loose (Seal generation) ≡ false)
+
+-- What the drop of a session leaves of the shelf.
+pub record DropsSession {F : Type 0} (outcome : Outcome) (files_of : F → Option (File → List ℕ))
+    (loose : F → File → Bool) (before after : F) : Type 0 where
+  -- If there is no store or no such session, and if opening finds a damage, nothing changes.
+  pub refused :
+      IsOneOf (NoStore ∷ NoSession ∷ []) outcome ⊎ IsDamage IsOfOpening outcome → KeepsFiles files_of loose before after
+  -- On Done and after a failed write the book and the seal of the store are flushed.
+  pub flushed : (outcome ≡ Done) ⊎ (outcome ≡ SinkFault) → (opened : Opened)
+      → IfSome (files_of before) (λ files. OpenAs files opened → AreFlushed opened.head.generation (loose after))
+
 -- What a run leaves of the shelf.
 abbrev pub LeavesShelf : {F : Type 0} → Result Command Refusal → Outcome → (F → Option (File → List ℕ))
     → (F → File → Bool) → F → F → Type 0
@@ -171,7 +185,7 @@ LeavesShelf (Ok (quiet ListSessions)) outcome files_of loose before after =
 LeavesShelf (Ok (quiet (Restore name))) outcome files_of loose before after =
     KeepsFiles files_of loose before after
 LeavesShelf (Ok (quiet (Drop name))) outcome files_of loose before after =
-    IsOneOf (NoStore ∷ NoSession ∷ []) outcome ⊎ IsDamage IsOfOpening outcome → KeepsFiles files_of loose before after
+    DropsSession outcome files_of loose before after
 LeavesShelf (Ok (quiet Refs)) outcome files_of loose before after =
     KeepsFiles files_of loose before after
 LeavesShelf (Ok (Ingest name how)) outcome files_of loose before after =

@@ -27,7 +27,7 @@ use Rattle.store_core.specs.Shelves.{CountsFaults}
 use Rattle.store_core.specs.StoreStates.{StandsFor, StoreState}
 use Rattle.backup_top.specs.ByRecords.{places_named}
 use Rattle.backup_top.specs.Outcomes.{EndsAs, IsAfterReading, IsBeforeReading, IsBroken, IsDamage, IsEarly, IsOneOf, LeavesStore, Writes}
-use Rattle.backup_top.specs.Run.{AreHeld, GoesByVerdict, KeepsFiles, LeavesShelf, MayReturn, NeedsHeld, OpensFirst, StayClean}
+use Rattle.backup_top.specs.Run.{AreFlushed, AreHeld, GoesByVerdict, KeepsFiles, LeavesShelf, MayReturn, NeedsHeld, OpensFirst, StayClean}
 
 -- the text of a command, or why it is refused
 abbrev pub Made : Type 0
@@ -200,6 +200,7 @@ pub record DropsFrom {F : Type 0} (store : StoreState) (name : List ℕ) (made :
   pub refused : IfErr made (λ ending. IsBroken ending ⊎ (ending ≡ NoSession))
   pub by_book : DropsByBook store.opened name made
   pub kept : made ≡ Err NoSession → KeepsFiles files_of loose before after
+  pub flushed : OnOk made (AreFlushed store.opened.head.generation (loose after))
   -- If the store stands for a state, the files then hold the state of the definition.
   pub held : (state : State) → IfSome (files_of before) (λ files. StandsFor sha256 store files state []
       → IfSome (files_of after) (MakesStoreOf made (Some state) (after_drop name state)))

@@ -16,7 +16,7 @@ returns-in-Ok-drop_session g c =
     let some = sym (c.in-Some.ensures ∙ ap (λ (b : BookState). places_named b.sessions name) c.book.ensures.book) in
     dropped_done name _ _ _ _ store _ _ c.in-Some.places c.in-Ok-drop_session.field-0 c.in-Ok.text some c.in-Ok.ensures
     (promised name _ _ _ _ store c.drop_session.new.self _ _ (Ok c.in-Ok-drop_session.field-0) c.in-Some.places some
-    made.late made.stands made.clean made.counts)
+    made.late made.flushed made.sealed made.stands made.clean made.counts)
 
 pub returns-in-Err : goal.returns-in-Err
 returns-in-Err g c =
@@ -30,4 +30,5 @@ returns-in-Err g c =
     g.F.Shelf.faultless c.args.shelf.now c.drop_session.new.shelf)
     (sym c.outcome_of.ensures)
     (dropped_failed name _ _ _ _ store _ _ fault
-    (promised name _ _ _ _ store c.drop_session.new.self _ _ (Err fault) c.in-Some.places some made.late made.stands made.clean made.counts))
+    (promised name _ _ _ _ store c.drop_session.new.self _ _ (Err fault) c.in-Some.places some
+    made.late made.flushed made.sealed made.stands made.clean made.counts))
