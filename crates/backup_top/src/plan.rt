@@ -19,7 +19,8 @@ use std::alloc::Global;
 use std::thread::Threads;
 
 /// Cuts the input by these numbers: the text is a line for each chunk. Workers scan the input in
-/// segments and name its chunks; how many they are and how long a segment is enter no clause.
+/// segments and name its chunks. The text of an input is the same however many they are and however
+/// long a segment is: no `ensures` clause speaks of either.
 pub fn plan<H: Threads + Sync, R: Source>(
     rt: &H,
     alloc: Global,
