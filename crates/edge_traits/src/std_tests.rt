@@ -55,22 +55,30 @@ impl<'a> Input for Keyboard<'a> {
     }
 }
 
+/// Whether a read of standard input that fails so many times at first returns this, after so many
+/// calls.
+fn reads(kind: ErrorKind, failures: u64, returned: Result<usize, EdgeFault>, calls: u64) -> bool {
+    let reads = AtomicU64::new(0);
+    let mut source = StdSource::new(Keyboard {
+        kind,
+        failures,
+        reads: &reads,
+    });
+    let mut into = [0u8; 3];
+    source.read(&mut into) == returned && reads.load(SeqCst) == calls
+}
+
 #[test]
 fn an_interrupted_read_is_made_again_64_times(rt: HostRuntime) {
-    for (failures, taken, calls) in [(1, Some(2), 2), (64, Some(2), 65), (65, None, 65)] {
-        let reads = AtomicU64::new(0);
-        let mut source = StdSource::new(Keyboard {
-            kind: ErrorKind::Interrupted,
-            failures,
-            reads: &reads,
-        });
-        let mut into = [0u8; 3];
-        assert_eq!(rt;
-            source.read(&mut into).ok(),
-            taken,
+    for (failures, returned, calls) in [
+        (1, Ok(2), 2),
+        (64, Ok(2), 65),
+        (65, Err(EdgeFault::Failed), 65),
+    ] {
+        assert!(rt;
+            reads(ErrorKind::Interrupted, failures, returned, calls),
             "{failures} interruptions"
         );
-        assert_eq!(rt; reads.load(SeqCst), calls, "{failures} interruptions");
     }
 }
 
@@ -82,19 +90,7 @@ fn any_other_error_of_a_read_is_no_end(rt: HostRuntime) {
         ErrorKind::UnexpectedEof,
         ErrorKind::Other,
     ] {
-        let reads = AtomicU64::new(0);
-        let mut source = StdSource::new(Keyboard {
-            kind,
-            failures: 1,
-            reads: &reads,
-        });
-        let mut into = [0u8; 3];
-        assert_eq!(rt;
-            source.read(&mut into).err(),
-            Some(EdgeFault::Failed),
-            "{kind:?}"
-        );
-        assert_eq!(rt; reads.load(SeqCst), 1, "{kind:?}");
+        assert!(rt; reads(kind, 1, Err(EdgeFault::Failed), 1), "{kind:?}");
     }
 }
 
@@ -166,19 +162,23 @@ impl Print for Pipe {
     }
 }
 
+/// Whether a write of `abc` to standard output that is interrupted so many times at first returns
+/// this, after so many calls.
+fn writes(interruptions: u64, returned: Result<usize, EdgeFault>, calls: u64) -> bool {
+    let pipe = Pipe::new(interruptions, 9);
+    let mut sink = StdSink::new(&pipe);
+    sink.write(b"abc") == returned && pipe.writes.load(SeqCst) == calls
+}
+
 #[test]
 fn an_interrupted_write_is_made_again_64_times(rt: HostRuntime) {
-    for (interruptions, taken, calls) in [(1, Some(3), 2), (64, Some(3), 65), (65, None, 65)] {
-        let pipe = Pipe::new(interruptions, 9);
-        let mut sink = StdSink::new(&pipe);
-        assert_eq!(rt;
-            sink.write(b"abc").ok(),
-            taken,
-            "{interruptions} interruptions"
-        );
-        assert_eq!(rt;
-            pipe.writes.load(SeqCst),
-            calls,
+    for (interruptions, returned, calls) in [
+        (1, Ok(3), 2),
+        (64, Ok(3), 65),
+        (65, Err(EdgeFault::Failed), 65),
+    ] {
+        assert!(rt;
+            writes(interruptions, returned, calls),
             "{interruptions} interruptions"
         );
     }

@@ -1,66 +1,95 @@
-ghost use Rattle.std.specs.Prelude.{◌≡◌, [], Some};
+ghost use Rattle.std.specs.Prelude.{Some};
 
 use crate::{EdgeFault, MemSink, MemSource, ReadFault, Sink, Source, read_all, write_all};
 use std::alloc::AllocError;
 use std::test::Fail;
 
-fn none(rt: &HostRuntime) -> Vec<u32>
-    ensures { result.items ≡ [] }
-{
-    Vec::new(rt.alloc())
-}
+// These have no clause, so that the proof of a test does not carry what each call ensures.
 
 /// A source of a text, which takes as much as fits and never fails.
-fn source_of(rt: &HostRuntime, text: &[u8]) -> Result<MemSource, AllocError> {
+fn source_of(rt: HostRuntime, text: &[u8]) -> Result<MemSource, AllocError> {
     let bytes = text.to_vec(rt.alloc())?;
-    Ok(MemSource::new(rt.alloc(), bytes, none(rt), none(rt)))
+    let (sizes, failing) = (Vec::new(rt.alloc()), Vec::new(rt.alloc()));
+    Ok(MemSource::new(rt.alloc(), bytes, sizes, failing))
+}
+
+/// A source of a text, of which three reads take one byte each, and the third call fails.
+fn failing_source_of(rt: HostRuntime, text: &[u8]) -> Result<MemSource, AllocError> {
+    let bytes = text.to_vec(rt.alloc())?;
+    let sizes = [1, 1, 1].to_vec(rt.alloc())?;
+    let failing = [2].to_vec(rt.alloc())?;
+    Ok(MemSource::new(rt.alloc(), bytes, sizes, failing))
+}
+
+fn sink_with(rt: HostRuntime, failing: &[u32]) -> Result<MemSink, AllocError> {
+    let failing = failing.to_vec(rt.alloc())?;
+    Ok(MemSink::new(rt.alloc(), failing))
+}
+
+fn read_whole(rt: HostRuntime, source: &mut MemSource, limit: u32) -> Result<Vec<u8>, ReadFault> {
+    read_all(rt.alloc(), source, limit)
+}
+
+/// Whether the next read returns these bytes.
+fn reads(source: &mut MemSource, bytes: &[u8]) -> bool {
+    let mut into = [0u8; 9];
+    match source.read(&mut into) {
+        Ok(count) => into.get(..count) == Some(bytes),
+        Err(_) => false,
+    }
+}
+
+/// Whether a piece is written, and these are then all bytes that were written.
+fn writes(sink: &mut MemSink, piece: &[u8], written: &[u8]) -> Result<bool, EdgeFault> {
+    write_all(sink, piece)?;
+    Ok(sink.written() == written)
 }
 
 #[test]
 fn a_source_is_read_up_to_the_limit(rt: HostRuntime) -> Result<(), Fail> {
-    let whole = read_all(rt.alloc(), &mut source_of(&rt, b"abc")?, 3)?;
+    let mut source = source_of(rt, b"abc")?;
+    let whole = read_whole(rt, &mut source, 3)?;
     assert_eq!(rt; whole.as_slice(), b"abc".as_slice());
-    let too_long = read_all(rt.alloc(), &mut source_of(&rt, b"abcd")?, 3);
+    let mut source = source_of(rt, b"abcd")?;
+    let too_long = read_whole(rt, &mut source, 3);
     assert_eq!(rt; too_long.err(), Some(ReadFault::InputTooLong));
+    Ok(())
+}
 
-    // A limit takes no memory for bytes that do not come.
-    let whole = read_all(rt.alloc(), &mut source_of(&rt, b"abc")?, 1 << 28)?;
+#[test]
+fn a_limit_takes_no_memory_for_bytes_that_do_not_come(rt: HostRuntime) -> Result<(), Fail> {
+    let mut source = source_of(rt, b"abc")?;
+    let whole = read_whole(rt, &mut source, 1 << 28)?;
+    assert_eq!(rt; whole.as_slice(), b"abc".as_slice());
     assert!(rt; whole.capacity() <= 1 << 16);
     Ok(())
 }
 
 #[test]
 fn a_source_that_fails_is_not_read_on(rt: HostRuntime) -> Result<(), Fail> {
-    let bytes = b"abcdef".to_vec(rt.alloc())?;
-    let sizes = [1, 1, 1].to_vec(rt.alloc())?;
-    let failing = [2].to_vec(rt.alloc())?;
-    let mut source = MemSource::new(rt.alloc(), bytes, sizes, failing);
-    let fault = read_all(rt.alloc(), &mut source, 9).err();
+    let mut source = failing_source_of(rt, b"abcdef")?;
+    let fault = read_whole(rt, &mut source, 9).err();
     assert_eq!(rt; fault, Some(ReadFault::SourceFault));
     // Two bytes were taken, and one size is left.
-    let mut into = [0u8; 9];
-    assert_eq!(rt; source.read(&mut into)?, 1);
-    assert_eq!(rt; source.read(&mut into)?, 3);
-    assert_eq!(rt; into[..3], b"def"[..]);
+    assert!(rt; reads(&mut source, b"c"));
+    assert!(rt; reads(&mut source, b"def"));
     Ok(())
 }
 
 #[test]
 fn a_piece_is_written_whole(rt: HostRuntime) -> Result<(), Fail> {
-    let mut sink = MemSink::new(rt.alloc(), none(&rt));
-    write_all(&mut sink, b"abc")?;
-    assert_eq!(rt; sink.written(), b"abc".as_slice());
+    let mut sink = sink_with(rt, &[])?;
+    assert!(rt; writes(&mut sink, b"abc", b"abc")?);
     Ok(())
 }
 
 #[test]
 fn a_refused_write_writes_nothing(rt: HostRuntime) -> Result<(), Fail> {
-    let failing = [0].to_vec(rt.alloc())?;
-    let mut sink = MemSink::new(rt.alloc(), failing);
-    assert_eq!(rt; write_all(&mut sink, b"abc").err(), Some(EdgeFault::Failed));
+    let mut sink = sink_with(rt, &[0])?;
+    let refused = writes(&mut sink, b"abc", b"");
+    assert_eq!(rt; refused.err(), Some(EdgeFault::Failed));
     assert!(rt; sink.written().is_empty());
-    write_all(&mut sink, b"de")?;
-    assert_eq!(rt; sink.written(), b"de".as_slice());
+    assert!(rt; writes(&mut sink, b"de", b"de")?);
     Ok(())
 }
 
