@@ -81,7 +81,8 @@ impl From<BookFault> for StoreFault {
     }
 }
 
-/// Whether a store may be written to after a call that returned this.
+/// Whether chunks may be offered to a store, and whether it may be written to, after a call that
+/// returned this.
 pub(crate) fn stays_sound<T>(outcome: &Result<T, StoreFault>) -> bool
     ensures { result ≡ stays_sound outcome.now }
 {

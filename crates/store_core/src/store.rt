@@ -133,7 +133,8 @@ impl<N: Namer> Store<N> {
     }
 
     /// Whether `offer`, `commit` and `drop_session` may be called: true until one of them returns
-    /// `Damaged`, `ShelfFault` or `OutOfMemory`.
+    /// `Damaged`, `ShelfFault` or `OutOfMemory`. Nothing may be offered to a store that is not sound,
+    /// and it must not be written to.
     pub fn is_sound(&self) -> bool
         ensures sound { result ≡ self.now.sound }
     {

@@ -32,7 +32,8 @@ impl<N: Namer> Store<N> {
     /// `NameTaken`, `TooManySessions` and `TooManyPlaces` are tried in this order, before anything is
     /// written, and leave the store with its offered chunks as it was. `ShelfFault` is returned only
     /// if the shelf's count of faults rose. After it, and if memory runs out, the store is not sound:
-    /// it must not be written to again. The record is then committed whole or not at all.
+    /// nothing may be offered to it, and it must not be written to again. The record is then committed
+    /// whole or not at all.
     pub fn commit<F: Shelf>(
         &mut self,
         shelf: &mut F,

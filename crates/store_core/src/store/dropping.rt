@@ -27,8 +27,8 @@ impl<N: Namer> Store<N> {
     ///
     /// `NoSession` is returned exactly if no live session has the name, and then nothing has changed.
     /// `ShelfFault` is returned only if the shelf's count of faults rose. After it, and if memory runs
-    /// out, the store is not sound: it must not be written to again. The record is then committed
-    /// whole or not at all.
+    /// out, the store is not sound: nothing may be offered to it, and it must not be written to again.
+    /// The record is then committed whole or not at all.
     pub fn drop_session<F: Shelf>(&mut self, shelf: &mut F, name: &Name) -> Result<u32, StoreFault>
         requires sound { IsTrue self.old.sound }
         requires none_offered { self.old.offered ≡ [] }

@@ -41,8 +41,8 @@ impl<N: Namer> Store<N> {
     /// of faults rose.
     ///
     /// No file changes if the chunk is found, or `Damaged` or `TooManyChunks` is returned. After
-    /// `TooManyChunks` the store is as it was. After each other refusal it is not sound, and it
-    /// must not be written to again.
+    /// `TooManyChunks` the store is as it was. After each other refusal it is not sound:
+    /// nothing more may be offered to it, and it must not be written to again.
     pub fn offer<F: Shelf>(
         &mut self,
         shelf: &mut F,
