@@ -23,33 +23,49 @@ pub(crate) fn shelf_with(rt: &HostRuntime, failing: &[ShelfFail]) -> Result<MemS
     Ok(MemShelf::new(rt.alloc(), Vec::from_slice(rt.alloc(), failing)?))
 }
 
+/// How making a store with the small parameters ends.
+fn made(rt: &HostRuntime, shelf: &mut MemShelf) -> Result<Option<StoreFault>, Fail> {
+    Ok(init(rt.alloc(), shelf, &small_params()?).err())
+}
+
 /// How opening the files of a shelf ends.
 fn opened(rt: &HostRuntime, shelf: &mut MemShelf) -> Option<StoreFault> {
     Store::open(rt.alloc(), shelf, Sha256Namer).err()
 }
 
-#[test]
-fn a_store_is_made_once_and_opens_empty(rt: HostRuntime) -> Result<(), Fail> {
+/// Whether the files are those of a new store with the small parameters, and are not loose.
+fn is_new(shelf: &MemShelf) -> bool {
+    shelf.file(File::Head) == SMALL_HEAD
+        && shelf.file(File::Seal(0)).is_empty()
+        && !shelf.is_loose(File::Head)
+        && !shelf.is_loose(File::Seal(0))
+}
+
+/// Whether a store has no sessions, the generation 0, and parameters with these settings.
+fn is_empty_with(store: &Store<Sha256Namer>, settings: &[u8]) -> bool {
+    store.book().sessions() == 0
+        && store.generation() == 0
+        && settings_of(store.params()).as_slice() == settings
+}
+
+/// Whether the files open as a store with no sessions and the small parameters.
+fn opens_empty(rt: &HostRuntime, shelf: &mut MemShelf) -> Result<bool, Fail> {
     let params = small_params()?;
-    let mut shelf = shelf_with(&rt, &[])?;
-    shelf.put_file(File::Seal(0), b"old")?;
-    assert_eq!(rt; opened(&rt, &mut shelf), Some(StoreFault::NoStore));
-    assert_eq!(rt; init(rt.alloc(), &mut shelf, &params), Ok(()));
-    assert_eq!(rt; shelf.file(File::Head), SMALL_HEAD);
-    assert!(rt; shelf.file(File::Seal(0)).is_empty());
-    assert!(rt; !shelf.is_loose(File::Head));
-    assert!(rt; !shelf.is_loose(File::Seal(0)));
-    assert_eq!(rt;
-        init(rt.alloc(), &mut shelf, &params),
-        Err(StoreFault::StoreThere)
-    );
-    let store = Store::open(rt.alloc(), &mut shelf, Sha256Namer)
+    let store = Store::open(rt.alloc(), shelf, Sha256Namer)
         .ok()
         .ok_or("it opens")?;
-    assert_eq!(rt; *store.params(), params);
-    assert_eq!(rt; store.generation(), 0);
-    assert_eq!(rt; store.book().sessions(), 0);
-    assert_eq!(rt; settings_of(store.params()).as_slice(), &SMALL_HEAD[..32]);
+    Ok(*store.params() == params && is_empty_with(&store, &SMALL_HEAD[..32]))
+}
+
+#[test]
+fn a_store_is_made_once_and_opens_empty(rt: HostRuntime) -> Result<(), Fail> {
+    let mut shelf = shelf_with(&rt, &[])?;
+    shelf.put_file(File::Seal(0), b"old")?;
+    assert!(rt; opened(&rt, &mut shelf) == Some(StoreFault::NoStore));
+    assert!(rt; made(&rt, &mut shelf)?.is_none());
+    assert!(rt; is_new(&shelf));
+    assert!(rt; made(&rt, &mut shelf)? == Some(StoreFault::StoreThere));
+    assert!(rt; opens_empty(&rt, &mut shelf)?);
     Ok(())
 }
 
@@ -127,41 +143,47 @@ fn the_first_damage_is_named(rt: HostRuntime) -> Result<(), Fail> {
     Ok(())
 }
 
+/// How making a store, opening it and opening it again end, if this call of the shelf fails.
+fn outcomes(rt: &HostRuntime, call: u32) -> Result<[Option<StoreFault>; 3], Fail> {
+    let mut shelf = shelf_with(rt, &[ShelfFail { call, kept: 0 }])?;
+    let made = made(rt, &mut shelf)?;
+    let first = opened(rt, &mut shelf);
+    let second = opened(rt, &mut shelf);
+    Ok([made, first, second])
+}
+
+// Making a store takes 8 calls. The last two append the byte that opens it and flush it. Opening an
+// empty store takes 5: it asks for the sizes of its head, its seal and its book, and reads the
+// settings and an empty front of the book.
 #[test]
 fn a_failing_call_is_a_fault_of_the_shelf(rt: HostRuntime) -> Result<(), Fail> {
-    let params = small_params()?;
-    for call in 0..8 {
-        let mut shelf = shelf_with(&rt, &[ShelfFail { call, kept: 0 }])?;
-        assert_eq!(rt;
-            init(rt.alloc(), &mut shelf, &params),
-            Err(StoreFault::ShelfFault),
-            "call {call} fails"
-        );
+    let fault = Some(StoreFault::ShelfFault);
+    let no_store = Some(StoreFault::NoStore);
+    for call in 0..14 {
+        let want = match call {
+            0..=6 => [fault, no_store, no_store],
+            7 => [fault, None, None],
+            8..=12 => [None, fault, None],
+            _ => [None, None, fault],
+        };
+        assert!(rt; outcomes(&rt, call)? == want, "call {call} fails");
     }
-    // Opening an empty store asks for the sizes of its head, its seal and its book, and reads the
-    // settings and an empty front of the book.
-    for call in 8..13 {
-        let mut shelf = shelf_with(&rt, &[ShelfFail { call, kept: 0 }])?;
-        assert_eq!(rt; init(rt.alloc(), &mut shelf, &params), Ok(()));
-        assert_eq!(rt;
-            opened(&rt, &mut shelf),
-            Some(StoreFault::ShelfFault),
-            "call {call} fails"
-        );
-        assert_eq!(rt; opened(&rt, &mut shelf), None);
-    }
-    // They are all the calls: the next one is the one that fails.
-    let mut shelf = shelf_with(&rt, &[ShelfFail { call: 13, kept: 0 }])?;
-    assert_eq!(rt; init(rt.alloc(), &mut shelf, &params), Ok(()));
-    assert_eq!(rt; opened(&rt, &mut shelf), None);
-    assert_eq!(rt; shelf.len(File::Head).err(), Some(EdgeFault::Failed));
     Ok(())
+}
+
+/// What is left if this call fails while a store is made: the bytes of the head, and whether the seal
+/// is loose.
+fn left_by(rt: &HostRuntime, call: u32) -> Result<(usize, bool), Fail> {
+    let mut shelf = shelf_with(rt, &[ShelfFail { call, kept: 1 }])?;
+    shelf.put_file(File::Seal(0), b"old")?;
+    if made(rt, &mut shelf)? != Some(StoreFault::ShelfFault) {
+        return Err(Fail::from("it is a fault of the shelf"));
+    }
+    Ok((shelf.file(File::Head).len(), shelf.is_loose(File::Seal(0))))
 }
 
 #[test]
 fn the_byte_that_opens_a_store_comes_last(rt: HostRuntime) -> Result<(), Fail> {
-    let params = small_params()?;
-    // What a call that fails leaves: the bytes of the head, and whether the seal is loose.
     for (call, head, loose) in [
         (1, 0, true),
         (2, 0, true),
@@ -171,14 +193,7 @@ fn the_byte_that_opens_a_store_comes_last(rt: HostRuntime) -> Result<(), Fail> {
         (6, 33, false),
         (7, 33, false),
     ] {
-        let mut shelf = shelf_with(&rt, &[ShelfFail { call, kept: 1 }])?;
-        shelf.put_file(File::Seal(0), b"old")?;
-        assert_eq!(rt;
-            init(rt.alloc(), &mut shelf, &params),
-            Err(StoreFault::ShelfFault)
-        );
-        assert_eq!(rt; shelf.file(File::Head).len(), head, "call {call} fails");
-        assert_eq!(rt; shelf.is_loose(File::Seal(0)), loose, "call {call} fails");
+        assert!(rt; left_by(&rt, call)? == (head, loose), "call {call} fails");
     }
     Ok(())
 }

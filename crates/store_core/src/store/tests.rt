@@ -169,7 +169,7 @@ pub(super) fn take_in_anew<N: Namer>(
 }
 
 /// Whether a store that is opened for it restores a session as these chunks.
-fn comes_back_anew<N: Namer>(
+pub(super) fn comes_back_anew<N: Namer>(
     rt: &HostRuntime,
     shelf: &mut MemShelf,
     namer: N,
@@ -199,58 +199,109 @@ fn container_is(rt: &HostRuntime, shelf: &MemShelf, chunks: &[&[u8]]) -> Result<
     Ok(shelf.file(File::Container(0, 0)) == container.as_slice())
 }
 
+/// Whether a session with a repeated chunk gets the number 0, and comes back.
+fn takes_in_a_repeat<N: Namer>(
+    rt: &HostRuntime,
+    store: &mut Store<N>,
+    shelf: &mut MemShelf,
+) -> Result<bool, Fail> {
+    let outcome = take_in(rt, store, shelf, b"a", &[A, B, A])?;
+    Ok(outcome == Ok(0) && comes_back(rt, store, shelf, b"a", &[A, B, A])?)
+}
+
 #[test]
 fn a_session_comes_back_and_a_repeat_is_stored_once(rt: HostRuntime) -> Result<(), Fail> {
     let mut shelf = made(&rt, &[])?;
     let mut store = opened(&rt, &mut shelf, Sha256Namer)?;
-    let outcome = take_in(&rt, &mut store, &mut shelf, b"a", &[A, B, A])?;
-    assert_eq!(rt; outcome, Ok(0));
+    assert!(rt; takes_in_a_repeat(&rt, &mut store, &mut shelf)?);
     assert!(rt; container_is(&rt, &shelf, &[A, B])?);
-    assert!(rt; comes_back(&rt, &store, &mut shelf, b"a", &[A, B, A])?);
     Ok(())
+}
+
+/// Whether one of these files is loose.
+pub(super) fn has_loose(shelf: &MemShelf, files: &[File]) -> bool {
+    files.iter().any(|file| shelf.is_loose(*file))
 }
 
 #[test]
 fn a_commit_leaves_no_file_loose(rt: HostRuntime) -> Result<(), Fail> {
     let shelf = with_session(&rt, Sha256Namer, &[A, B, A])?;
-    assert_eq!(rt; shelf.file(File::Seal(0)).len(), 1);
-    for file in [File::Book(0), File::Seal(0), File::Container(0, 0)] {
-        assert!(rt; !shelf.is_loose(file));
-    }
+    assert!(rt; shelf.file(File::Seal(0)).len() == 1);
+    assert!(rt;
+        !has_loose(
+            &shelf,
+            &[File::Book(0), File::Seal(0), File::Container(0, 0)]
+        )
+    );
     Ok(())
+}
+
+/// Two sessions, and the chunks that are stored of them.
+#[derive(Clone, Copy)]
+struct TwoSessions<'a> {
+    a: &'a [&'a [u8]],
+    b: &'a [&'a [u8]],
+    stored: &'a [&'a [u8]],
+}
+
+/// Whether these chunks are stored and both sessions come back, if each is taken in by a store that is
+/// opened for it.
+fn are_stored<N: Namer + Copy>(
+    rt: &HostRuntime,
+    namer: N,
+    sessions: &TwoSessions<'_>,
+) -> Result<bool, Fail> {
+    let mut shelf = with_session(rt, namer, sessions.a)?;
+    let outcome = take_in_anew(rt, &mut shelf, namer, b"b", sessions.b)?;
+    Ok(
+        outcome == Ok(1)
+            && container_is(rt, &shelf, sessions.stored)?
+            && comes_back_anew(rt, &mut shelf, namer, b"a", sessions.a)?
+            && comes_back_anew(rt, &mut shelf, namer, b"b", sessions.b)?,
+    )
 }
 
 #[test]
 fn a_store_opened_anew_stores_new_chunks_alone(rt: HostRuntime) -> Result<(), Fail> {
-    let mut shelf = with_session(&rt, Sha256Namer, &[A, B, A])?;
-    let outcome = take_in_anew(&rt, &mut shelf, Sha256Namer, b"b", &[B, C])?;
-    assert_eq!(rt; outcome, Ok(1));
-    assert!(rt; container_is(&rt, &shelf, &[A, B, C])?);
-    assert!(rt; comes_back_anew(&rt, &mut shelf, Sha256Namer, b"a", &[A, B, A])?);
-    assert!(rt; comes_back_anew(&rt, &mut shelf, Sha256Namer, b"b", &[B, C])?);
+    let sessions = TwoSessions {
+        a: &[A, B, A],
+        b: &[B, C],
+        stored: &[A, B, C],
+    };
+    assert!(rt; are_stored(&rt, Sha256Namer, &sessions)?);
     Ok(())
+}
+
+#[test]
+fn chunks_of_one_name_are_kept_apart(rt: HostRuntime) -> Result<(), Fail> {
+    let sessions = TwoSessions {
+        a: &[A, C, A, C],
+        b: &[C, A],
+        stored: &[A, C],
+    };
+    assert!(rt; are_stored(&rt, LengthNamer, &sessions)?);
+    Ok(())
+}
+
+/// Whether a store that is opened for it refuses so to restore a session, after these bytes.
+fn ends_with(
+    rt: &HostRuntime,
+    shelf: &mut MemShelf,
+    name: &[u8],
+    fault: StoreFault,
+    bytes: &[u8],
+) -> Result<bool, Fail> {
+    let store = opened(rt, shelf, Sha256Namer)?;
+    let (outcome, written) = restored(rt, &store, shelf, name)?;
+    Ok(outcome == Err(fault) && written.as_slice() == bytes)
 }
 
 #[test]
 fn a_name_is_taken_once_and_an_unknown_one_has_no_bytes(rt: HostRuntime) -> Result<(), Fail> {
     let mut shelf = with_session(&rt, Sha256Namer, &[A])?;
     let outcome = take_in_anew(&rt, &mut shelf, Sha256Namer, b"a", &[A])?;
-    assert_eq!(rt; outcome, Err(StoreFault::NameTaken));
-    let store = opened(&rt, &mut shelf, Sha256Namer)?;
-    let (outcome, written) = restored(&rt, &store, &mut shelf, b"c")?;
-    assert_eq!(rt; outcome, Err(StoreFault::NoSession));
-    assert!(rt; written.is_empty());
-    Ok(())
-}
-
-#[test]
-fn chunks_of_one_name_are_kept_apart(rt: HostRuntime) -> Result<(), Fail> {
-    let mut shelf = with_session(&rt, LengthNamer, &[A, C, A, C])?;
-    let outcome = take_in_anew(&rt, &mut shelf, LengthNamer, b"b", &[C, A])?;
-    assert_eq!(rt; outcome, Ok(1));
-    assert!(rt; container_is(&rt, &shelf, &[A, C])?);
-    assert!(rt; comes_back_anew(&rt, &mut shelf, LengthNamer, b"a", &[A, C, A, C])?);
-    assert!(rt; comes_back_anew(&rt, &mut shelf, LengthNamer, b"b", &[C, A])?);
+    assert!(rt; outcome == Err(StoreFault::NameTaken));
+    assert!(rt; ends_with(&rt, &mut shelf, b"c", StoreFault::NoSession, b"")?);
     Ok(())
 }
 
@@ -282,10 +333,7 @@ fn with_changed_byte(rt: &HostRuntime) -> Result<MemShelf, Fail> {
 #[test]
 fn a_changed_byte_of_a_chunk_ends_a_restore(rt: HostRuntime) -> Result<(), Fail> {
     let mut shelf = with_changed_byte(&rt)?;
-    let store = opened(&rt, &mut shelf, Sha256Namer)?;
-    let (outcome, written) = restored(&rt, &store, &mut shelf, b"a")?;
-    assert_eq!(rt; outcome, Err(damage_of_b()));
-    assert_eq!(rt; written.as_slice(), A);
+    assert!(rt; ends_with(&rt, &mut shelf, b"a", damage_of_b(), A)?);
     Ok(())
 }
 
@@ -332,14 +380,23 @@ fn a_failed_read_ends_a_restore_after_the_chunks_before(rt: HostRuntime) -> Resu
     Ok(())
 }
 
+/// Whether an offer of a chunk ends so, and leaves the store sound or not.
+fn offer_ends<N: Namer>(
+    store: &mut Store<N>,
+    shelf: &mut MemShelf,
+    chunk: &[u8],
+    ends: Result<u32, StoreFault>,
+    is_sound: bool,
+) -> Result<bool, Fail> {
+    Ok(offer(store, shelf, chunk)? == ends && store.is_sound() == is_sound)
+}
+
 #[test]
 fn a_changed_byte_of_a_chunk_is_found_by_an_offer(rt: HostRuntime) -> Result<(), Fail> {
     let mut shelf = with_changed_byte(&rt)?;
     let mut store = opened(&rt, &mut shelf, Sha256Namer)?;
-    assert_eq!(rt; offer(&mut store, &mut shelf, C)?, Ok(2));
-    assert!(rt; store.is_sound());
-    assert_eq!(rt; offer(&mut store, &mut shelf, B)?, Err(damage_of_b()));
-    assert!(rt; !store.is_sound());
+    assert!(rt; offer_ends(&mut store, &mut shelf, C, Ok(2), true)?);
+    assert!(rt; offer_ends(&mut store, &mut shelf, B, Err(damage_of_b()), false)?);
     Ok(())
 }
 
@@ -350,28 +407,59 @@ fn add_tail(rt: &HostRuntime, shelf: &mut MemShelf, file: File) -> Result<(), Fa
     Ok(shelf.put_file(file, &bytes)?)
 }
 
+/// The bytes of the book that its records take.
+fn used_of<N: Namer>(store: &Store<N>) -> u64 {
+    store.book().used()
+}
+
+/// How many sessions were committed, the dropped ones too.
+pub(super) fn sessions_of<N: Namer>(store: &Store<N>) -> u32 {
+    store.book().sessions()
+}
+
+/// A shelf with a store in which the session `a` has the chunks `A` and `B`, with a tail on its book and
+/// its container.
+fn with_tails(rt: &HostRuntime) -> Result<MemShelf, Fail> {
+    let mut shelf = with_session(rt, Sha256Namer, &[A, B])?;
+    add_tail(rt, &mut shelf, File::Book(0))?;
+    add_tail(rt, &mut shelf, File::Container(0, 0))?;
+    Ok(shelf)
+}
+
+/// Whether the book has no tail.
+fn is_all_used(rt: &HostRuntime, shelf: &mut MemShelf) -> Result<bool, Fail> {
+    let used = used_of(&opened(rt, shelf, Sha256Namer)?);
+    Ok(used == shelf.file(File::Book(0)).len() as u64)
+}
+
 #[test]
 fn an_unsealed_tail_is_cut(rt: HostRuntime) -> Result<(), Fail> {
-    let mut shelf = with_session(&rt, Sha256Namer, &[A, B])?;
-    add_tail(&rt, &mut shelf, File::Book(0))?;
-    add_tail(&rt, &mut shelf, File::Container(0, 0))?;
+    let mut shelf = with_tails(&rt)?;
     let outcome = take_in_anew(&rt, &mut shelf, Sha256Namer, b"b", &[C])?;
-    assert_eq!(rt; outcome, Ok(1));
+    assert!(rt; outcome == Ok(1));
     assert!(rt; container_is(&rt, &shelf, &[A, B, C])?);
-    let store = opened(&rt, &mut shelf, Sha256Namer)?;
-    assert_eq!(rt; store.book().used(), shelf.file(File::Book(0)).len() as u64);
-    assert!(rt; comes_back(&rt, &store, &mut shelf, b"b", &[C])?);
+    assert!(rt; is_all_used(&rt, &mut shelf)?);
+    assert!(rt; comes_back_anew(&rt, &mut shelf, Sha256Namer, b"b", &[C])?);
     Ok(())
 }
 
 /// How many sessions there are. The session `a` comes back if it is there.
 fn sessions_that_come_back(rt: &HostRuntime, shelf: &mut MemShelf) -> Result<u32, Fail> {
-    let store = opened(rt, shelf, Sha256Namer)?;
-    let sessions = store.book().sessions();
-    if sessions != 0 && !comes_back(rt, &store, shelf, b"a", &[A, B])? {
+    let sessions = sessions_of(&opened(rt, shelf, Sha256Namer)?);
+    if sessions != 0 && !comes_back_anew(rt, shelf, Sha256Namer, b"a", &[A, B])? {
         return Err(Fail::from("it comes back"));
     }
     Ok(sessions)
+}
+
+/// Whether a session is refused by a fault of the shelf, after which the store is not sound.
+fn refuses_session<N: Namer>(
+    rt: &HostRuntime,
+    store: &mut Store<N>,
+    shelf: &mut MemShelf,
+) -> Result<bool, Fail> {
+    let outcome = take_in(rt, store, shelf, b"a", &[A, B])?;
+    Ok(outcome == Err(StoreFault::ShelfFault) && !store.is_sound())
 }
 
 /// How many sessions there are after a call of the shelf has failed while one was taken in. If it is
@@ -379,8 +467,7 @@ fn sessions_that_come_back(rt: &HostRuntime, shelf: &mut MemShelf) -> Result<u32
 fn sessions_after(rt: &HostRuntime, fail: ShelfFail) -> Result<u32, Fail> {
     let mut shelf = made(rt, &[fail])?;
     let mut store = opened(rt, &mut shelf, Sha256Namer)?;
-    let outcome = take_in(rt, &mut store, &mut shelf, b"a", &[A, B])?;
-    if outcome != Err(StoreFault::ShelfFault) || store.is_sound() {
+    if !refuses_session(rt, &mut store, &mut shelf)? {
         return Err(Fail::from("it is a fault of the shelf"));
     }
     sessions_that_come_back(rt, &mut shelf)
@@ -397,9 +484,9 @@ fn a_session_is_there_exactly_if_its_byte_was_appended(rt: HostRuntime) -> Resul
             _ => (0, 0),
         };
         let sessions = sessions_after(&rt, ShelfFail { call, kept: 0 })?;
-        assert_eq!(rt; sessions, none_kept, "call {call} fails");
+        assert!(rt; sessions == none_kept, "call {call} fails");
         let sessions = sessions_after(&rt, ShelfFail { call, kept: 1 })?;
-        assert_eq!(rt; sessions, one_kept, "call {call} fails and keeps a byte");
+        assert!(rt; sessions == one_kept, "call {call} fails and keeps a byte");
     }
     Ok(())
 }
