@@ -6,9 +6,9 @@ ghost use Rattle.shard_plan.specs.Items.{AreNamed, chunk_of, name_of};
 
 use std::marker::Model;
 
-/// The chunks of a text and their names. Items are numbered as the chunks lie in the text. Only the
-/// cuts are kept, so an item's bytes are read out of the text. A clause sees the list of the chunks
-/// and the list of the names. Nothing here takes memory.
+/// The chunks of a text and their names. Items are numbered as the chunks lie in the text. Their bytes
+/// are not copied. A clause sees the list of the chunks and the list of the names. Nothing here takes
+/// memory.
 #[derive(Drop)]
 pub struct Items<'a> {
     text: &'a [u8],
