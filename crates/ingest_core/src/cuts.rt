@@ -12,8 +12,8 @@ use std::thread::Threads;
 
 /// The cuts of an input, in order, in two stages after SS-CDC (SYSTOR 2019): workers scan its
 /// segments and mark the candidates in a map, and a walk over the map applies the minimum and the
-/// maximum. The input is one batch of number 0. How many workers there are and how long a segment is
-/// enter no clause on the cuts. It fails only if memory runs out.
+/// maximum. The input is one batch of number 0. The cuts are the same for every number of workers and
+/// every length of a segment. It fails only if memory runs out.
 pub fn cuts_of_text<H: Threads + Sync, G: Gate>(
     rt: &H,
     alloc: Global,

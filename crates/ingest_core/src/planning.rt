@@ -13,8 +13,8 @@ use std::alloc::Global;
 use std::thread::Threads;
 
 /// The chunks of an input in order: where each begins, its length and its name. Workers scan the
-/// input in segments and name the chunks, as one batch of number 0. How many workers there are and
-/// how long a segment is enter no clause on the lines. It fails only if memory runs out.
+/// input in segments and name the chunks, as one batch of number 0. The lines are the same for every
+/// number of workers and every length of a segment. It fails only if memory runs out.
 pub fn plan<H: Threads + Sync, N: Namer, G: Gate>(
     rt: &H,
     alloc: Global,
