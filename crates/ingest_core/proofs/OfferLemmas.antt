@@ -1,8 +1,8 @@
 -- The chunks of an input that are offered one after another: one more chunk.
 use Rattle.std.proofs.lemmas.Bool.{cases_Bool}
 use Rattle.std.specs.Str.{bytes_eq}
-use Rattle.std.proofs.Common.{Some, None, true, false, ◌≡◌, inl, inr, ℕ, ◌+◌, ◌≤◌, List, [], ◌∷◌, ◌++◌, IfSome, length, map, refl, ap, sym, subst, ◌∙◌, arith}
-use Rattle.std.proofs.lemmas.List.{get_or_append_left, append_assoc, append-nil, length-append, map-append}
+use Rattle.std.proofs.Common.{Some, None, true, false, ◌≡◌, inl, inr, ℕ, ◌+◌, ◌<◌, ◌≤◌, List, [], ◌∷◌, ◌++◌, IfSome, length, map, slice_index_or, refl, ap, sym, subst, ◌∙◌, arith}
+use Rattle.std.proofs.lemmas.List.{get_or-map, get_or_append_left, append_assoc, append-nil, length-append, map-append}
 use Rattle.std.proofs.lemmas.List.Elements.{All-append, All-from_recursion}
 use Rattle.std.proofs.lemmas.List.Folds.{concat-append}
 use Rattle.std.proofs.Math.Seq.{get_or-append_seam}
@@ -24,7 +24,7 @@ use Rattle.store_core.proofs.OfferLemmas.{stands-count}
 use Rattle.store_core.proofs.StoreLemmas.{Told}
 use Rattle.store_core.specs.StoreStates.{StoreState, chunks_of_store}
 use Rattle.ingest_core.specs.Offering.{AreOffered, StandsWith}
-use Rattle.ingest_core.proofs.RecipeLemmas.{bytes-more, bytes-push, in_order-new, in_order-old, length_at, recipe-more}
+use Rattle.ingest_core.proofs.RecipeLemmas.{bytes-more, bytes-push, in_order-new, in_order-old, length_at, lengths-more, recipe-more}
 
 -- the lengths of chunks are those that a store can be offered
 abbrev pub Fit : ℕ → List (List ℕ) → Type 0
@@ -37,22 +37,29 @@ joined done chunk =
     ap length (concat-append done (chunk ∷ []) ∙ ap (λ last. concat done ++ last) (append-nil chunk))
     ∙ length-append (concat done) chunk
 
+-- one more chunk has a number that the store knows, and was not added to it
+pub one_known : (first now : StoreState) (done : List (List ℕ)) (recipe : List ℕ) (chunk : List ℕ) (n : ℕ) →
+    AreOffered first done recipe now → n < length (chunks_of_store now) →
+    length_at (chunks_of_store now) n ≡ length chunk → AreOffered first (done ++ chunk ∷ []) (recipe ++ n ∷ []) now
+one_known first now done recipe chunk n had below size =
+    let known = length (chunks_in first.opened.book.sessions) in
+    record {
+      opened = had.opened;
+      sound = had.sound;
+      count = omega (arith, had.count, length-append recipe (n ∷ []), length-append done (chunk ∷ []));
+      in_order = in_order-old known (length (chunks_of_store now)) n recipe had.in_order below;
+      sums = omega (arith, bytes-push (chunks_of_store now) recipe n, size, had.sums, joined done chunk);
+      short = had.short;
+    }
+
 -- one more chunk was offered
 pub one_more : (first now next : StoreState) (done : List (List ℕ)) (recipe : List ℕ) (chunk name : List ℕ) (i : ℕ) →
     AreOffered first done recipe now → length chunk ≤ first.opened.head.params.max →
     OffersAt now (record { length = length chunk; name = name }) i next →
     AreOffered first (done ++ chunk ∷ []) (recipe ++ i ∷ []) next
 one_more first now next done recipe chunk name i had short (inl (below, kept, same)) =
-    let known = length (chunks_in first.opened.book.sessions) in
-    let size : length_at (chunks_of_store now) i ≡ length chunk = ap (λ (c : NewChunk). c.length) kept in
-    subst (λ (s : StoreState). AreOffered first (done ++ chunk ∷ []) (recipe ++ i ∷ []) s) (sym same) (record {
-      opened = had.opened;
-      sound = had.sound;
-      count = omega (arith, had.count, length-append recipe (i ∷ []), length-append done (chunk ∷ []));
-      in_order = in_order-old known (length (chunks_of_store now)) i recipe had.in_order below;
-      sums = omega (arith, bytes-push (chunks_of_store now) recipe i, size, had.sums, joined done chunk);
-      short = had.short;
-    })
+    subst (λ (s : StoreState). AreOffered first (done ++ chunk ∷ []) (recipe ++ i ∷ []) s) (sym same)
+    (one_known first now done recipe chunk i had below (ap (λ (c : NewChunk). c.length) kept))
 one_more first now next done recipe chunk name i had short (inr (end, within, is)) =
     let new : NewChunk = record { length = length chunk; name = name } in
     let known = length (chunks_in first.opened.book.sessions) in
@@ -76,6 +83,42 @@ one_more first now next done recipe chunk name i had short (inr (end, within, is
       short = All-append (λ (c : NewChunk). c.length ≤ first.opened.head.params.max) now.offered (new ∷ []) had.short
           (All-from_recursion (λ (c : NewChunk). c.length ≤ first.opened.head.params.max) (new ∷ []) (short, tt));
     })
+
+-- the numbers of a recipe are those of chunks of these lengths, whatever the shelf holds
+abbrev pub HaveLengths : StoreState → List ℕ → List (List ℕ) → Type 0
+HaveLengths store recipe chunks = map (length_at (chunks_of_store store)) recipe ≡ map length chunks
+
+lengths-push : (kept : List NewChunk) (recipe : List ℕ) (chunks : List (List ℕ)) (n : ℕ) (chunk : List ℕ) →
+    map (length_at kept) recipe ≡ map length chunks → length_at kept n ≡ length chunk →
+    map (length_at kept) (recipe ++ n ∷ []) ≡ map length (chunks ++ chunk ∷ [])
+lengths-push kept recipe chunks n chunk had size =
+    map-append (length_at kept) recipe (n ∷ []) ∙ ap (λ front. front ++ length_at kept n ∷ []) had
+    ∙ ap (λ last. map length chunks ++ last ∷ []) size ∙ sym (map-append length chunks (chunk ∷ []))
+
+-- and so they are after one more chunk that the store knows, and one that was offered
+pub lengths-known : (now : StoreState) (recipe : List ℕ) (done : List (List ℕ)) (n : ℕ) (chunk : List ℕ) →
+    HaveLengths now recipe done → length_at (chunks_of_store now) n ≡ length chunk →
+    HaveLengths now (recipe ++ n ∷ []) (done ++ chunk ∷ [])
+lengths-known now recipe done n chunk had size = lengths-push (chunks_of_store now) recipe done n chunk had size
+
+pub lengths-offered : (first now next : StoreState) (done : List (List ℕ)) (recipe : List ℕ) (chunk name : List ℕ) (i : ℕ) →
+    AreOffered first done recipe now → OffersAt now (record { length = length chunk; name = name }) i next →
+    HaveLengths now recipe done → HaveLengths next (recipe ++ i ∷ []) (done ++ chunk ∷ [])
+lengths-offered first now next done recipe chunk name i offered (inl (below, kept, same)) had =
+    subst (λ (s : StoreState). HaveLengths s (recipe ++ i ∷ []) (done ++ chunk ∷ [])) (sym same)
+    (lengths-known now recipe done i chunk had (ap (λ (c : NewChunk). c.length) kept))
+lengths-offered first now next done recipe chunk name i offered (inr (end, within, is)) had =
+    let new : NewChunk = record { length = length chunk; name = name } in
+    let known = length (chunks_in first.opened.book.sessions) in
+    let kept = chunks_of_store now in
+    let all : List NewChunk = chunks_in now.opened.book.sessions ++ (now.offered ++ new ∷ []) in
+    let moved : all ≡ kept ++ new ∷ [] = sym (append_assoc (chunks_in now.opened.book.sessions) now.offered (new ∷ [])) in
+    let size : length_at (kept ++ new ∷ []) i ≡ length chunk =
+    ap (length_at (kept ++ new ∷ [])) end
+    ∙ ap (λ (c : NewChunk). c.length) (get_or-append_seam kept new [] (record { length = 0; name = [] })) in
+    subst (λ (s : StoreState). HaveLengths s (recipe ++ i ∷ []) (done ++ chunk ∷ [])) (sym is)
+    (subst (λ (cs : List NewChunk). map (length_at cs) (recipe ++ i ∷ []) ≡ map length (done ++ chunk ∷ [])) (sym moved)
+    (lengths-push (kept ++ new ∷ []) recipe done i chunk (lengths-more kept (new ∷ []) known recipe offered.in_order ∙ had) size))
 
 -- ---- a store that stands for a state
 
@@ -154,3 +197,26 @@ module _ (name_of : List ℕ → List ℕ) (before : File → List ℕ) (now : S
         few = few-more next i name more had at (stands-count name_of next then state more offers.1);
         clean = λ alone. clean (had.clean alone);
       }
+
+-- what the entries of a recipe have is at each place that of the chunk
+pub at-place : {T : Type 0} (f : ℕ → T) (other : T) (recipe : List ℕ) (all : List T) (i : ℕ) → map f recipe ≡ all →
+    i < length recipe → f (slice_index_or recipe i 0) ≡ slice_index_or all i other
+at-place f other recipe all i had inside =
+    sym (get_or-map f recipe i 0 other inside) ∙ ap (λ ts. slice_index_or ts i other) had
+
+-- one more chunk has the bytes of an earlier one, and the number of that one
+pub stands-known : (name_of : List ℕ → List ℕ) (before : File → List ℕ) (now : StoreState) (files : File → List ℕ)
+    (state : State) (done : List (List ℕ)) (recipe : List ℕ) (chunk : List ℕ) (i : ℕ) → i < length recipe →
+    slice_index_or done i [] ≡ chunk → StandsWith name_of before now files state done recipe →
+    StandsWith name_of before now files state (done ++ chunk ∷ []) (recipe ++ slice_index_or recipe i 0 ∷ [])
+stands-known name_of before now files state done recipe chunk i inside same had =
+    let all = stored_chunks state ++ had.offered in
+    let n = slice_index_or recipe i 0 in
+    record {
+      offered = had.offered;
+      stands = had.stands;
+      names = map-append (chunk_at all) recipe (n ∷ []) ∙ ap (λ front. front ++ chunk_at all n ∷ []) had.names
+          ∙ ap (λ last. done ++ last ∷ []) (at-place (chunk_at all) [] recipe done i had.names inside ∙ same);
+      few = had.few;
+      clean = had.clean;
+    }

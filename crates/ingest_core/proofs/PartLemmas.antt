@@ -1,8 +1,12 @@
--- The first chunks of an input were offered to a store: what is known of the store and its files.
+-- The first chunks of an input were offered to a store or repeat earlier ones: what is known of the
+-- store and its files.
 use Rattle.std.proofs.Common.{◌≡◌, ℕ, ◌<◌, ◌≤◌, true, List, [], ◌∷◌, ◌++◌, Some, None, IfSome, OnErr, length, refl, ap, sym, subst, ◌∙◌, inl, inr, false, arith, map, slice_index_or, slice_range, append-nil, length-append}
-use Rattle.std.proofs.lemmas.List.{append_assoc, length-map, map-append}
+use Rattle.std.proofs.lemmas.List.{append_assoc, get_or-map, get_or_append_left, length-map, map-append}
+use Rattle.std.proofs.lemmas.List.Sums.{passes_at_first}
+use Rattle.std.proofs.lemmas.Slice.Eq.{bytes_eq-Decides}
 use Rattle.std.proofs.Math.Seq.{get_or-append_seam}
 use Rattle.std.specs.List.{All}
+use Rattle.std.specs.Str.{bytes_eq}
 use Rattle.std.specs.Prelude.{Err, Ok, Result}
 use Rattle.edge_traits.specs.Shelf.{content}
 use Rattle.sd_base.specs.Books.{chunks_in}
@@ -12,7 +16,7 @@ use Rattle.sd_base.specs.declared.record.NewChunk.{NewChunk}
 use Rattle.sd_base.proofs.Covering.{chunk_sizes}
 use Rattle.sd_base.proofs.Rising.{RiseWithin-cuts_of}
 use Rattle.std.proofs.lemmas.List.Elements.{All-from_recursion, recursion_from_All}
-use Rattle.sd_base.specs.Distinct.{distinct, is_among, new_chunks, not_among}
+use Rattle.sd_base.specs.Distinct.{distinct, first_index, is_among, new_chunks, not_among}
 use Rattle.sd_base.specs.Opening.{Opened}
 use Rattle.sd_base.specs.Stores.{HoldState, named}
 use Rattle.sd_base.specs.declared.damage.Damage.{Damage}
@@ -27,7 +31,7 @@ use Rattle.store_core.specs.CleanFiles.{AreCleanWith}
 use Rattle.store_core.specs.Commits.{OnlyFails}
 use Rattle.store_core.specs.Offers.{IsNamedDamage, IsOffered, IsRefused, OffersAt, OnlyOffers}
 use Rattle.store_core.specs.Recipes.{IsInOrder}
-use Rattle.store_core.specs.StoreStates.{StandsFor, StoreState}
+use Rattle.store_core.specs.StoreStates.{StandsFor, StoreState, chunks_of_store}
 use Rattle.store_core.specs.declared.fault.StoreFault.{StoreFault}
 use Rattle.store_core.specs.declared.fault.StoreFault.TheVariants.{Damaged}
 use Rattle.store_core.proofs.IngestLemmas.{book-chunks, ingest-new_chunks}
@@ -35,9 +39,11 @@ use Rattle.store_core.proofs.OfferLemmas.{stands-count}
 use Rattle.store_core.proofs.StoreLemmas.{Told, if_told, told_map}
 use Rattle.ingest_core.specs.Offering.{AreOffered, AreRefused, OnlyRefuses, StandsWith}
 use Rattle.ingest_core.proofs.FaultLemmas.{at-error, err-is, err-of}
-use Rattle.ingest_core.proofs.OfferLemmas.{Fit, one_more, stands-more}
+use Rattle.ingest_core.proofs.OfferLemmas.{Fit, HaveLengths, at-place, lengths-known, lengths-offered, one_known, one_more, stands-known, stands-more}
+use Rattle.ingest_core.proofs.RecipeLemmas.{in_order-below, length_at}
+use Rattle.shard_plan.specs.Leaders.{leaders_of}
 
--- The chunks of an input up to a position were offered, and these cuts are left.
+-- The chunks of an input up to a position were offered or repeat earlier ones, and these cuts are left.
 pub record IsPart (name_of : List ℕ → List ℕ) (input : List ℕ) (chunks : List (List ℕ)) (start : ℕ) (left : List ℕ)
     (recipe : List ℕ) (first now : StoreState) (before after : Told) : Type 0 where
   pub done : List (List ℕ)
@@ -45,9 +51,20 @@ pub record IsPart (name_of : List ℕ → List ℕ) (input : List ℕ) (chunks :
   pub fit : Fit first.opened.head.params.max (chunks_between input start left)
   pub rise : RiseWithin start (length input) left
   pub offered : AreOffered first done recipe now
+  pub lengths : HaveLengths now recipe done
   pub head : content after Head ≡ content before Head
   pub stands : (state : State) → IfSome before (λ files. StandsFor name_of first files state [] →
       IfSome after (λ then. StandsWith name_of files now then state done recipe))
+
+-- the same of an equal recipe, store and shelf
+pub part-same : (name_of : List ℕ → List ℕ) (input : List ℕ) (chunks : List (List ℕ)) (start : ℕ) (left recipe : List ℕ)
+    (first now : StoreState) (before after : Told) → IsPart name_of input chunks start left recipe first now before after →
+    (entries : List ℕ) (store : StoreState) (told : Told) → entries ≡ recipe → store ≡ now → told ≡ after →
+    IsPart name_of input chunks start left entries first store before told
+part-same name_of input chunks start left recipe first now before after part entries store told recipes stores tolds =
+    subst (λ r. IsPart name_of input chunks start left r first store before told) (sym recipes)
+    (subst (λ (s : StoreState). IsPart name_of input chunks start left recipe first s before told) (sym stores)
+    (subst (λ (t : Told). IsPart name_of input chunks start left recipe first now before t) (sym tolds) part))
 
 -- what holds if a shelf is observable holds of one that is
 at_told : (P : (File → List ℕ) → Type 0) (told : Told) (files : File → List ℕ) → told ≡ Some files → IfSome told P → P files
@@ -86,6 +103,7 @@ module _ (name_of : List ℕ → List ℕ) (input : List ℕ) (chunks : List (Li
     fit = part.fit.1;
     rise = part.rise.2;
     offered = one_more first now next part.done recipe chunk name i part.offered part.fit.0.1 offers;
+    lengths = lengths-offered first now next part.done recipe chunk name i part.offered offers part.lengths;
     head = head ∙ part.head;
     stands = λ state. through (λ files. StandsFor name_of first files state [])
         (λ origin files. StandsWith name_of origin now files state part.done recipe)
@@ -100,19 +118,56 @@ module _ (name_of : List ℕ → List ℕ) (input : List ℕ) (chunks : List (Li
         mid files is (clean state had.offered) had.stands));
   }
 
-  -- the chunks have one name each, and the one at the end of the recipe is that of the next chunk
-  pub part-name : (names : List (List ℕ)) → names ≡ map name_of chunks →
-      (length recipe < length names) × (slice_index_or names (length recipe) [] ≡ name_of chunk)
-  part-name names are =
-      let rest = map name_of (chunks_between input cut left) in
-      let done = map name_of part.done in
-      let split : names ≡ done ++ name_of chunk ∷ rest =
-      are ∙ ap (map name_of) (sym part.split) ∙ map-append name_of part.done (chunk ∷ chunks_between input cut left) in
-      let here : length recipe ≡ length done = part.offered.count ∙ sym (length-map part.done name_of) in (
-        omega (arith, ap length split, length-append done (name_of chunk ∷ rest), here),
-        ap (λ all. slice_index_or all (length recipe) []) split ∙ ap (λ n. slice_index_or (done ++ name_of chunk ∷ rest) n []) here
-            ∙ get_or-append_seam done (name_of chunk) rest [],
+  -- of a list that has an item for each chunk, the one at the end of the recipe is that of the next
+  pub part-at : {T : Type 0} (f : List ℕ → T) (other : T) (all : List T) → all ≡ map f chunks →
+      (length recipe < length all) × (slice_index_or all (length recipe) other ≡ f chunk)
+  part-at f other all are =
+      let rest = map f (chunks_between input cut left) in
+      let done = map f part.done in
+      let split : all ≡ done ++ f chunk ∷ rest =
+      are ∙ ap (map f) (sym part.split) ∙ map-append f part.done (chunk ∷ chunks_between input cut left) in
+      let here : length recipe ≡ length done = part.offered.count ∙ sym (length-map part.done f) in (
+        omega (arith, ap length split, length-append done (f chunk ∷ rest), here),
+        ap (λ ts. slice_index_or ts (length recipe) other) split ∙ ap (λ n. slice_index_or (done ++ f chunk ∷ rest) n other) here
+            ∙ get_or-append_seam done (f chunk) rest other,
       )
+
+  -- the leader of the next chunk, if it was before it, has its bytes
+  leader-same : (leader : ℕ) → leader ≡ first_index chunks chunk → leader < length recipe →
+      slice_index_or part.done leader [] ≡ chunk
+  leader-same leader is inside =
+      let rest = chunk ∷ chunks_between input cut left in
+      let before : leader < length part.done = omega (arith, inside, part.offered.count) in
+      let there : first_index chunks chunk < length chunks =
+      omega (arith, is, before, ap length part.split, length-append part.done rest) in
+      sym (get_or_append_left part.done rest [] leader before) ∙ ap (λ cs. slice_index_or cs leader []) part.split
+      ∙ ap (λ n. slice_index_or chunks n []) is
+      ∙ sym ((bytes_eq-Decides chunk (slice_index_or chunks (first_index chunks chunk) [])).0
+      (passes_at_first (bytes_eq chunk) chunks [] there))
+
+  -- the next chunk has an earlier leader: it is not offered, and its entry is that of the leader
+  pub part-repeat : (leaders : List ℕ) (leader : ℕ) → leaders ≡ leaders_of chunks →
+      leader ≡ slice_index_or leaders (length recipe) 0 → leader < length recipe →
+      IsPart name_of input chunks cut left (recipe ++ slice_index_or recipe leader 0 ∷ []) first now before mid
+  part-repeat leaders leader are at inside =
+      let same = leader-same leader (at ∙ (part-at (first_index chunks) 0 leaders are).1) inside in
+      let kept = chunks_of_store now in
+      let size : length_at kept (slice_index_or recipe leader 0) ≡ length chunk =
+      at-place (length_at kept) 0 recipe (map length part.done) leader part.lengths inside
+      ∙ get_or-map length part.done leader [] 0 (omega (arith, inside, part.offered.count)) ∙ ap length same in
+      let below = in_order-below known (length kept) recipe leader part.offered.in_order inside in
+      record {
+        done = part.done ++ chunk ∷ [];
+        split = append_assoc part.done (chunk ∷ []) (chunks_between input cut left) ∙ part.split;
+        fit = part.fit.1;
+        rise = part.rise.2;
+        offered = one_known first now part.done recipe chunk (slice_index_or recipe leader 0) part.offered below size;
+        lengths = lengths-known now recipe part.done (slice_index_or recipe leader 0) chunk part.lengths size;
+        head = part.head;
+        stands = λ state. told_map before (λ files with stands. told_map mid (λ then had.
+            stands-known name_of files now then state part.done recipe chunk leader inside same had) (with stands))
+            (part.stands state);
+      }
 
 -- a store with no chunk offered names none
 none_stands : (name_of : List ℕ → List ℕ) (store : StoreState) (told : Told) (state : State) →
@@ -154,6 +209,7 @@ part-none name_of params input cuts store told same valid are none sound =
         short = subst (All (λ (chunk : NewChunk). chunk.length ≤ store.opened.head.params.max)) (sym none)
             (All-from_recursion (λ (chunk : NewChunk). chunk.length ≤ store.opened.head.params.max) [] tt);
       };
+      lengths = refl;
       head = refl;
       stands = none_stands name_of store told;
     }

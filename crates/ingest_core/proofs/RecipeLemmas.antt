@@ -1,5 +1,5 @@
 -- A recipe in order, and one entry more.
-use Rattle.std.proofs.Common.{◌≡◌, inl, inr, ℕ, ◌+◌, ◌<◌, ◌≤◌, List, [], ◌∷◌, ◌++◌, length, map, refl, ap, sym, ◌∙◌, arith}
+use Rattle.std.proofs.Common.{◌≡◌, inl, inr, ℕ, zero, suc, ◌+◌, ◌<◌, ◌≤◌, List, [], ◌∷◌, ◌++◌, length, map, refl, ap, sym, ◌∙◌, arith}
 use Rattle.std.proofs.lemmas.List.{get_or_append_left}
 use Rattle.std.proofs.lemmas.List.Sums.{sum_by-cons, sum_by_push}
 use Rattle.std.specs.Prelude.{slice_index_or}
@@ -21,6 +21,19 @@ in_order-few known total (n ∷ recipe) (inl old) =
     let few = in_order-few known total recipe old.1 in omega (arith, few)
 in_order-few known total (n ∷ recipe) (inr new) =
     let few = in_order-few (known + 1) total recipe new.1 in omega (arith, few)
+
+-- each entry is of a chunk that has occurred
+pub in_order-below : (known total : ℕ) (recipe : List ℕ) (i : ℕ) → IsInOrder known recipe total → i < length recipe →
+    slice_index_or recipe i 0 < total
+in_order-below known total [] i order inside = absurd omega (arith, inside)
+in_order-below known total (n ∷ recipe) zero (inl old) inside =
+    let limit = in_order-limit known total recipe old.1 in omega (arith, old.0, limit)
+in_order-below known total (n ∷ recipe) zero (inr new) inside =
+    let limit = in_order-limit (known + 1) total recipe new.1 in omega (arith, new.0, limit)
+in_order-below known total (n ∷ recipe) (suc i) (inl old) inside =
+    in_order-below known total recipe i old.1 (omega (arith, inside))
+in_order-below known total (n ∷ recipe) (suc i) (inr new) inside =
+    in_order-below (known + 1) total recipe i new.1 (omega (arith, inside))
 
 -- one more entry of a chunk that has occurred
 pub in_order-old : (known total n : ℕ) (recipe : List ℕ) → IsInOrder known recipe total → n < total →
@@ -53,6 +66,25 @@ recipe-more chunks more known (n ∷ recipe) (inr new) =
 -- the length of chunk n
 abbrev pub length_at : List NewChunk → ℕ → ℕ
 length_at chunks n = (slice_index_or chunks n (record { length = 0; name = [] })).length
+
+-- it names chunks of the same lengths if more chunks follow
+pub lengths-more : (chunks more : List NewChunk) (known : ℕ) (recipe : List ℕ) → IsInOrder known recipe (length chunks) →
+    map (length_at (chunks ++ more)) recipe ≡ map (length_at chunks) recipe
+lengths-more chunks more known [] order = refl
+lengths-more chunks more known (n ∷ recipe) (inl old) =
+    let limit = in_order-limit known (length chunks) recipe old.1 in
+    let same : length_at (chunks ++ more) n ≡ length_at chunks n =
+    ap (λ (c : NewChunk). c.length)
+    (get_or_append_left chunks more (record { length = 0; name = [] }) n (omega (arith, old.0, limit))) in
+    ap (λ size. size ∷ map (length_at (chunks ++ more)) recipe) same
+    ∙ ap (λ rest. length_at chunks n ∷ rest) (lengths-more chunks more known recipe old.1)
+lengths-more chunks more known (n ∷ recipe) (inr new) =
+    let limit = in_order-limit (known + 1) (length chunks) recipe new.1 in
+    let same : length_at (chunks ++ more) n ≡ length_at chunks n =
+    ap (λ (c : NewChunk). c.length)
+    (get_or_append_left chunks more (record { length = 0; name = [] }) n (omega (arith, new.0, limit))) in
+    ap (λ size. size ∷ map (length_at (chunks ++ more)) recipe) same
+    ∙ ap (λ rest. length_at chunks n ∷ rest) (lengths-more chunks more (known + 1) recipe new.1)
 
 -- and so it counts the same bytes
 pub bytes-more : (chunks more : List NewChunk) (known : ℕ) (recipe : List ℕ) → IsInOrder known recipe (length chunks) →

@@ -1,4 +1,4 @@
--- What becomes of the chunks of an input that are offered to a store, one after another.
+-- What becomes of the chunks of an input, of which the distinct ones are offered to a store.
 use Rattle.std.specs.Prelude.{[], ◌≡◌, ◌⊎◌, ◌≤◌, ◌<◌, ◌++◌, ℕ, List, length, true, Option, IfSome, Result, Err}
 use Rattle.std.specs.List.{All, concat}
 use Rattle.store_core.specs.Faults.{IsOfChunk}
@@ -16,8 +16,8 @@ use Rattle.store_core.specs.StoreStates.{StandsFor, StoreState, chunks_of_store}
 use Rattle.store_core.specs.declared.fault.StoreFault.{StoreFault}
 use Rattle.store_core.specs.declared.fault.StoreFault.TheVariants.{Damaged, TooManyChunks}
 
--- Chunks were offered to a store that had none offered before, and the recipe has their numbers.
--- This holds whatever the shelf holds.
+-- The distinct chunks of a list were offered to a store that had none offered before, and the
+-- recipe has the number of each chunk. This holds whatever the shelf holds.
 pub record AreOffered (first : StoreState) (chunks : List (List ℕ)) (recipe : List ℕ) (now : StoreState) : Type 0 where
   pub opened : now.opened ≡ first.opened
   pub sound : now.sound ≡ true

@@ -1,12 +1,15 @@
 //! The commands that cut an input. `plan` cuts it and names its chunks, and `ingest` opens a store,
-//! reads an input, cuts it, names its chunks and commits one session, both by workers. The crate uses
-//! the definitions of `sd_base`, the source and the shelf of `edge_traits`, the namers of
-//! `chunk_names` and the store of `store_core`. It cuts by `segment_scan` and `cut_walk`, with the
-//! maps of `candidate_map`. All rules here are this project's own.
+//! reads an input, cuts it, names its chunks and commits one session, both by workers. `ingest`
+//! offers each distinct chunk of its input once: a chunk is offered only if it is its own leader.
+//!
+//! The crate uses the definitions of `sd_base`, the source and the shelf of `edge_traits`, the namers
+//! of `chunk_names` and the store of `store_core`. It cuts by `segment_scan` and `cut_walk`, with the
+//! maps of `candidate_map`, and finds leaders by `shard_plan`. All rules here are this project's own.
 #![tactic(auto)]
 
 mod cuts;
 mod fault;
+mod leaders;
 mod line;
 mod offering;
 mod opening;

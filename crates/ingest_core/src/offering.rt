@@ -6,6 +6,7 @@ ghost use Rattle.sd_base.specs.Cutting.{chunks_of, cuts_of};
 ghost use Rattle.sd_base.specs.Parameters.{IsValid};
 ghost use Rattle.sd_base.specs.States.{State};
 ghost use Rattle.sd_base.specs.declared.file.File.TheVariants.{Head};
+ghost use Rattle.shard_plan.specs.Leaders.{leaders_of};
 ghost use Rattle.store_core.specs.Shelves.{CountsFaults};
 ghost use Rattle.store_core.specs.StoreStates.{StandsFor};
 
@@ -14,8 +15,9 @@ use edge_traits::Shelf;
 use std::alloc::Global;
 use store_core::{Store, StoreFault};
 
-/// Offers the chunks of an input in order, each with its name, and returns the recipe that has their
-/// numbers. Nothing was offered to the store before.
+/// Offers the distinct chunks of an input in order, each with its name, and returns the recipe that
+/// has the numbers of all chunks. A chunk with the bytes of an earlier one is not offered: it has the
+/// number of its leader. Nothing was offered to the store before.
 pub(crate) fn offer_all<F: Shelf, N: Namer>(
     alloc: Global,
     store: &mut Store<&N>,
@@ -23,12 +25,14 @@ pub(crate) fn offer_all<F: Shelf, N: Namer>(
     names: &[[u8; 32]],
     input: &[u8],
     cuts: &[u32],
+    leaders: &[u32],
 ) -> Result<Vec<u32>, StoreFault>
     requires sound { IsTrue store.old.sound }
     requires none { store.old.offered ≡ [] }
     requires valid { IsValid store.old.opened.head.params }
     requires cuts { cuts.now ≡ cuts_of store.old.opened.head.params input.now }
     requires names { names.now ≡ map N.name_of (chunks_of store.old.opened.head.params input.now) }
+    requires leaders { leaders.now ≡ leaders_of (chunks_of store.old.opened.head.params input.now) }
 
     ensures offered { IfOk result (λ recipe.
         AreOffered store.old (chunks_of store.old.opened.head.params input.now) recipe.items store.new) }
@@ -49,8 +53,14 @@ pub(crate) fn offer_all<F: Shelf, N: Namer>(
     let mut recipe = Vec::with_capacity(alloc, cuts.len())?;
     let mut start = 0u32;
     for cut in cuts {
-        let chunk = &input[start as usize..*cut as usize];
-        let number = store.offer(shelf, chunk, &names[recipe.len()])?;
+        let place = recipe.len();
+        let leader = leaders[place] as usize;
+        let number = if leader < place {
+            recipe[leader]
+        } else {
+            let chunk = &input[start as usize..*cut as usize];
+            store.offer(shelf, chunk, &names[place])?
+        };
         recipe.push(number)?;
         start = *cut;
     }

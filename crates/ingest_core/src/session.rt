@@ -22,8 +22,9 @@ use std::thread::Threads;
 use store_core::StoreFault;
 
 /// Opens the store on a shelf, reads the source to its end, cuts what it read, and commits one
-/// session of these chunks under a name. How it is carried out, and the threads of `rt`, enter no
-/// clause.
+/// session of these chunks under a name. Repeats inside the input are found first, so the store is
+/// offered each distinct chunk once. No `ensures` clause speaks of how it is carried out, or of the
+/// threads of `rt`.
 ///
 /// Over files that hold a lawful state the outcome, the numbers and the state after are those of the
 /// definition, except for a fault that a device counted in this call and for running out of memory.

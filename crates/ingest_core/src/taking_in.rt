@@ -13,6 +13,7 @@ ghost use Rattle.sd_base.specs.declared.limits.TheConstants.{MAX_INPUT, MAX_PLAC
 ghost use Rattle.store_core.specs.Shelves.{CountsFaults};
 ghost use Rattle.store_core.specs.StoreStates.{StandsFor};
 
+use crate::leaders::leaders_of_text;
 use crate::offering::offer_all;
 use crate::{IngestFault, Summary};
 use chunk_names::{Namer, name_all};
@@ -59,7 +60,7 @@ pub(crate) fn take_in<H: Threads + Sync, F: Shelf, N: Namer>(
     store_session(rt, alloc, store, shelf, namer, name, input, cuts, how)
 }
 
-// Names the chunks, offers them and commits the session.
+// Names the chunks, finds the leader of each, offers the leaders and commits the session.
 fn store_session<H: Threads + Sync, F: Shelf, N: Namer>(
     rt: &H,
     alloc: Global,
@@ -92,7 +93,8 @@ fn store_session<H: Threads + Sync, F: Shelf, N: Namer>(
 {
     let known = store.book().chunks().len();
     let names = name_all(rt, alloc, namer, input, 0, cuts, how.workers, 0, &OpenGate)?;
-    let recipe = offer_all(alloc, store, shelf, &names, input, cuts)?;
+    let leaders = leaders_of_text(rt, alloc, input, cuts, &names, how.shards)?;
+    let recipe = offer_all(alloc, store, shelf, &names, input, cuts, &leaders)?;
     let session = store.commit(shelf, name, input.len() as u32, &recipe)?;
     Ok(Summary {
         session,

@@ -1,14 +1,17 @@
-use Rattle.std.proofs.Common.{rules, ◌++◌, ◌∷◌, Global, Vec, ℕ, ◌+◌, List, [], drop, refl, sym, subst, arith}
-use Rattle.std.proofs.lemmas.List.{drop_all, drop_more}
+use Rattle.std.proofs.Common.{◌≡◌, rules, ◌++◌, ◌∷◌, ◌∙◌, Global, Vec, ℕ, ◌+◌, ◌<◌, List, [], ap, drop, length, refl, sym, subst, arith}
+use Rattle.std.proofs.lemmas.List.{drop_all, drop_more, get_or_read}
 use Rattle.std.specs.Prelude.{IfSome, OnErr, Result, slice_index_or}
 use Rattle.sd_base.specs.Cutting.{chunks_of}
 use Rattle.sd_base.specs.declared.file.File.TheVariants.{Head}
+use Rattle.sd_base.specs.Distinct.{first_index}
+use Rattle.store_core.specs.Shelves.{CountsFaults}
 use Rattle.store_core.specs.StoreStates.{StandsFor}
 use Rattle.store_core.specs.declared.fault.StoreFault.{StoreFault}
 use Rattle.ingest_core.specs.Offering.{AreRefused, OnlyRefuses}
 use Rattle.ingest_core.proofs.FaultLemmas.{passed-is, memory-fails}
-use Rattle.ingest_core.proofs.PartLemmas.{IsPart, offer-refuses, part-all, part-next, part-none, part-refused, part-stopped}
+use Rattle.ingest_core.proofs.PartLemmas.{IsPart, offer-refuses, part-all, part-at, part-next, part-none, part-refused, part-repeat, part-same, part-stopped}
 use Rattle.ingest_core.proofs.offering.offer_all.Goals as goal
+use Rattle.ingest_core.proofs.offering.offer_all.Goals.{then-leader-place, else-leader-place+in_ok-number}
 
 pub loop-cut-init : goal.loop-cut-init
 loop-cut-init g c =
@@ -56,6 +59,25 @@ returns-in_err-number-clause-stands_refused g c = λ state.
     c.offer.result fault c.in_err-number.was (λ state offered. c.offer.ensures.held state offered)
     c.offer.ensures.stands_refused state)
 
+pub bounds-leaders-place : goal.bounds-leaders-place
+bounds-leaders-place g c =
+    let name_of = g.N.Namer.name_of in
+    let input = c.args.input.now in
+    let first = c.args.store.now in
+    let chunks = chunks_of first.opened.head.params input in
+    let before = g.F.Shelf.files c.args.shelf.now in
+    let mid = g.F.Shelf.files c.loop-cut.shelf in
+    let k = c.loop-cut.cut-index in
+    let cut = slice_index_or c.args.cuts.now k 0 in
+    let left = drop (k + 1) c.args.cuts.now in
+    let start = c.loop-cut.start in
+    let recipe = c.loop-cut.recipe.items in
+    let part = subst (λ (cs : List ℕ). IsPart name_of input chunks start cs recipe first c.loop-cut.store before mid)
+    (drop_more c.args.cuts.now k 0 (omega (arith, c.loop-cut-test.true))) c.loop-cut.invariant.part in
+    let below = (part-at name_of input chunks start cut left recipe first c.loop-cut.store before mid part (first_index chunks) 0
+    c.args.leaders.now c.requires.leaders).0 in
+    omega (arith, below, c.len-place.ensures, c.loop-cut.recipe.ok)
+
 pub loop-cut-preserved : goal.loop-cut-preserved
 loop-cut-preserved g c =
     let name_of = g.N.Namer.name_of in
@@ -64,7 +86,6 @@ loop-cut-preserved g c =
     let chunks = chunks_of first.opened.head.params input in
     let before = g.F.Shelf.files c.args.shelf.now in
     let mid = g.F.Shelf.files c.loop-cut.shelf in
-    let after = g.F.Shelf.files c.offer.new.shelf in
     let k = c.loop-cut.cut-index in
     let cut = slice_index_or c.args.cuts.now k 0 in
     let left = drop (k + 1) c.args.cuts.now in
@@ -72,15 +93,36 @@ loop-cut-preserved g c =
     let recipe = c.loop-cut.recipe.items in
     let part = subst (λ (cs : List ℕ). IsPart name_of input chunks start cs recipe first c.loop-cut.store before mid)
     (drop_more c.args.cuts.now k 0 (omega (arith, c.loop-cut-test.true))) c.loop-cut.invariant.part in
-    record {
-      counts = search rules;
-      part = subst (λ (more : List ℕ). IsPart name_of input chunks cut left more first c.offer.new.self before after)
-          (sym c.in_ok-push.ensures.items)
-          (part-next name_of input chunks start cut left recipe first c.loop-cut.store before mid part c.offer.new.self after _
-          c.in_ok-number.number c.in_ok-number.ensures.kept (c.offer.ensures.other_files Head (λ k is. absurd cc))
-          (λ state offered. c.in_ok-number.ensures.stands state offered)
-          (λ state offered. c.in_ok-number.ensures.clean state offered));
-    }
+    let place : c.len-place.result ≡ length recipe = omega (arith, c.len-place.ensures, c.loop-cut.recipe.ok) in
+    let leader = slice_index_or c.args.leaders.now c.len-place.result 0 in
+    let after = g.F.Shelf.files c.if-leader-place.shelf in
+    elim c.if-leader-place.branch [
+      | then-leader-place w ↦
+          let inside : leader < length recipe = omega (arith, place, w.if-leader-place.true) in
+          let entry = get_or_read recipe leader w.index.result.now inside w.index.ensures 0 in
+          record {
+            counts = subst (λ shelf. CountsFaults ⊥ g.F.Shelf.faults g.F.Shelf.faultless c.args.shelf.now shelf) (sym w.shelf-is)
+                c.loop-cut.invariant.counts;
+            part = part-same name_of input chunks cut left (recipe ++ slice_index_or recipe leader 0 ∷ []) first c.loop-cut.store before mid
+                (part-repeat name_of input chunks start cut left recipe first c.loop-cut.store before mid part c.args.leaders.now
+                leader c.requires.leaders (ap (λ n. slice_index_or c.args.leaders.now n 0) place) inside)
+                _ _ _ (c.in_ok-push.ensures.items ∙ ap (λ n. recipe ++ n ∷ []) (w.number-is ∙ entry)) w.store-is
+                (ap g.F.Shelf.files w.shelf-is);
+          }
+      | else-leader-place+in_ok-number w ↦
+          record {
+            counts = subst (λ shelf. CountsFaults ⊥ g.F.Shelf.faults g.F.Shelf.faultless c.args.shelf.now shelf) (sym w.shelf-is)
+                (search rules);
+            part = part-same name_of input chunks cut left (recipe ++ w.in_ok-number.number ∷ []) first w.offer.new.self before
+                (g.F.Shelf.files w.offer.new.shelf)
+                (part-next name_of input chunks start cut left recipe first c.loop-cut.store before mid part w.offer.new.self
+                (g.F.Shelf.files w.offer.new.shelf) _ w.in_ok-number.number w.in_ok-number.ensures.kept
+                (w.offer.ensures.other_files Head (λ k is. absurd cc)) (λ state offered. w.in_ok-number.ensures.stands state offered)
+                (λ state offered. w.in_ok-number.ensures.clean state offered))
+                _ _ _ (c.in_ok-push.ensures.items ∙ ap (λ n. recipe ++ n ∷ []) w.number-is) w.store-is
+                (ap g.F.Shelf.files w.shelf-is);
+          }
+    ]
 
 pub returns-clause-stands : goal.returns-clause-stands
 returns-clause-stands g c =
@@ -98,7 +140,6 @@ returns-in_err-push-clause-stands_refused g c = λ state.
     let chunks = chunks_of first.opened.head.params input in
     let before = g.F.Shelf.files c.args.shelf.now in
     let mid = g.F.Shelf.files c.loop-cut.shelf in
-    let after = g.F.Shelf.files c.offer.new.shelf in
     let k = c.loop-cut.cut-index in
     let cut = slice_index_or c.args.cuts.now k 0 in
     let left = drop (k + 1) c.args.cuts.now in
@@ -106,10 +147,28 @@ returns-in_err-push-clause-stands_refused g c = λ state.
     let recipe = c.loop-cut.recipe.items in
     let part = subst (λ (cs : List ℕ). IsPart name_of input chunks start cs recipe first c.loop-cut.store before mid)
     (drop_more c.args.cuts.now k 0 (omega (arith, c.loop-cut-test.true))) c.loop-cut.invariant.part in
+    let place : c.len-place.result ≡ length recipe = omega (arith, c.len-place.ensures, c.loop-cut.recipe.ok) in
+    let leader = slice_index_or c.args.leaders.now c.len-place.result 0 in
+    let after = g.F.Shelf.files c.if-leader-place.shelf in
     let result = c.from_residual-in_err-push.result in
-    part-stopped name_of input chunks cut left (recipe ++ c.in_ok-number.number ∷ []) first c.offer.new.self before after
-    (part-next name_of input chunks start cut left recipe first c.loop-cut.store before mid part c.offer.new.self after _
-    c.in_ok-number.number c.in_ok-number.ensures.kept (c.offer.ensures.other_files Head (λ k is. absurd cc))
-    (λ state offered. c.in_ok-number.ensures.stands state offered)
-    (λ state offered. c.in_ok-number.ensures.clean state offered)) chunks (Vec ℕ Global) result
-    (memory-fails result c.from_residual-in_err-push.ensures.1) state
+    let next : IsPart name_of input chunks cut left (recipe ++ c.if-leader-place.number ∷ []) first c.if-leader-place.store before
+    after =
+    elim c.if-leader-place.branch [
+      | then-leader-place w ↦
+          let inside : leader < length recipe = omega (arith, place, w.if-leader-place.true) in
+          let entry = get_or_read recipe leader w.index.result.now inside w.index.ensures 0 in
+          part-same name_of input chunks cut left (recipe ++ slice_index_or recipe leader 0 ∷ []) first c.loop-cut.store before mid
+          (part-repeat name_of input chunks start cut left recipe first c.loop-cut.store before mid part c.args.leaders.now
+          leader c.requires.leaders (ap (λ n. slice_index_or c.args.leaders.now n 0) place) inside)
+          _ _ _ (ap (λ n. recipe ++ n ∷ []) (w.number-is ∙ entry)) w.store-is (ap g.F.Shelf.files w.shelf-is)
+      | else-leader-place+in_ok-number w ↦
+          part-same name_of input chunks cut left (recipe ++ w.in_ok-number.number ∷ []) first w.offer.new.self before
+          (g.F.Shelf.files w.offer.new.shelf)
+          (part-next name_of input chunks start cut left recipe first c.loop-cut.store before mid part w.offer.new.self
+          (g.F.Shelf.files w.offer.new.shelf) _ w.in_ok-number.number w.in_ok-number.ensures.kept
+          (w.offer.ensures.other_files Head (λ k is. absurd cc)) (λ state offered. w.in_ok-number.ensures.stands state offered)
+          (λ state offered. w.in_ok-number.ensures.clean state offered))
+          _ _ _ (ap (λ n. recipe ++ n ∷ []) w.number-is) w.store-is (ap g.F.Shelf.files w.shelf-is)
+    ] in
+    part-stopped name_of input chunks cut left (recipe ++ c.if-leader-place.number ∷ []) first c.if-leader-place.store before after
+    next chunks (Vec ℕ Global) result (memory-fails result c.from_residual-in_err-push.ensures.1) state

@@ -1,8 +1,10 @@
 use Rattle.std.proofs.Common.{Some, ◌≡◌, List, ℕ, [], Vec, Global, IfSome, length, ap, arith, refl, sym, subst, ◌∙◌}
 use Rattle.std.specs.Prelude.{◌⊎◌, ◌-◌, IfErr, OnErr, Result}
 use Rattle.sd_base.specs.Books.{BookState, bytes_named, chunks_in}
-use Rattle.sd_base.specs.Cutting.{chunks_of, cuts_of}
+use Rattle.sd_base.specs.Cutting.{chunks_between, chunks_of, cuts_of}
 use Rattle.sd_base.specs.Opening.{Opened}
+use Rattle.sd_base.specs.Parameters.{IsValid}
+use Rattle.sd_base.specs.declared.raw_params.RawParams.{RawParams}
 use Rattle.sd_base.specs.States.{IsCutting}
 use Rattle.ingest_core.proofs.FaultLemmas.{passed-is, only_fails}
 use Rattle.ingest_core.proofs.Refusals.{count-between}
@@ -17,6 +19,8 @@ use Rattle.store_core.specs.StoreStates.{StandsFor, chunks_of_store}
 use Rattle.store_core.specs.declared.fault.StoreFault.{StoreFault}
 use Rattle.store_core.specs.declared.fault.StoreFault.TheVariants.{OutOfMemory}
 use Rattle.store_core.proofs.StoreLemmas.{told_map}
+use Rattle.shard_plan.proofs.Chunks.{named_by_function}
+use Rattle.shard_plan.specs.Leaders.{leaders_of}
 use Rattle.ingest_core.specs.Faults.{Fails}
 use Rattle.ingest_core.specs.Ingests.{Ends, IngestsInto}
 use Rattle.ingest_core.specs.Offering.{AreRefused}
@@ -24,17 +28,40 @@ use Rattle.ingest_core.specs.declared.fault.IngestFault.TheVariants.{Store}
 use Rattle.ingest_core.proofs.TakingLemmas.{chunks-committed, fail-into, fails, few-offered, late-fails, mid-no_early, no-chunks, ok-into, unnamed}
 use Rattle.ingest_core.proofs.taking_in.store_session.Goals as goal
 
+-- the cuts of an input rise within it
+cuts-rise : (params : RawParams) (input cuts : List ℕ) → IsValid params → cuts ≡ cuts_of params input →
+    RiseWithin 0 (length input) cuts
+cuts-rise params input cuts valid are =
+    let min = valid.min in
+    subst (RiseWithin 0 (length input)) (sym are) (RiseWithin-cuts_of params input (omega (arith, min)) valid.max.0)
+
 pub name_all-requires-clause-rise : goal.name_all-requires-clause-rise
 name_all-requires-clause-rise g c = λ κs lives.
-    let valid = c.requires.valid in
-    let min = valid.min in
-    subst (RiseWithin 0 (length c.args.input.now)) (sym c.requires.cuts)
-    (RiseWithin-cuts_of c.args.store.now.opened.head.params c.args.input.now (omega (arith, min)) valid.max.0)
+    cuts-rise c.args.store.now.opened.head.params c.args.input.now c.args.cuts.now c.requires.valid c.requires.cuts
+
+pub leaders_of_text-requires-clause-rise : goal.leaders_of_text-requires-clause-rise
+leaders_of_text-requires-clause-rise g c = λ κs lives.
+    cuts-rise c.args.store.now.opened.head.params c.args.input.now c.args.cuts.now c.requires.valid c.requires.cuts
+
+pub leaders_of_text-requires-clause-named : goal.leaders_of_text-requires-clause-named
+leaders_of_text-requires-clause-named g c = λ κs lives.
+    named_by_function g.N.Namer.name_of (chunks_between c.args.input.now 0 c.args.cuts.now) c.deref.result.now
+    (c.deref.ensures.value ∙ c.in_ok-names.ensures.names)
+
+pub offer_all-requires-clause-leaders : goal.offer_all-requires-clause-leaders
+offer_all-requires-clause-leaders g c = λ κs lives.
+    c.deref-3.ensures.value ∙ c.in_ok-leaders.ensures.leaders ∙ ap (λ cs. leaders_of (chunks_between c.args.input.now 0 cs)) c.requires.cuts
 
 pub returns-in_err-names-clause-ingests : goal.returns-in_err-names-clause-ingests
 returns-in_err-names-clause-ingests g c =
     unnamed g.N.Namer.name_of c.args.store.now (g.F.Shelf.files c.args.shelf.now) c.args.name.now c.args.input.now
     c.from_residual.result (passed-is (Store OutOfMemory) c.from_residual.result c.from_residual.ensures.1)
+
+pub returns-in_err-leaders-clause-ingests : goal.returns-in_err-leaders-clause-ingests
+returns-in_err-leaders-clause-ingests g c =
+    unnamed g.N.Namer.name_of c.args.store.now (g.F.Shelf.files c.args.shelf.now) c.args.name.now c.args.input.now
+    c.from_residual-in_err-leaders.result
+    (passed-is (Store OutOfMemory) c.from_residual-in_err-leaders.result c.from_residual-in_err-leaders.ensures.1)
 
 pub returns-in_err-recipe-clause-ingests : goal.returns-in_err-recipe-clause-ingests
 returns-in_err-recipe-clause-ingests g c = λ state.
@@ -62,7 +89,7 @@ commit-requires-clause-sums g c = λ κs lives.
     let params = c.args.store.now.opened.head.params in
     let valid = c.requires.valid in
     let min = valid.min in
-    ap (bytes_named (chunks_of_store c.offer_all.new.store)) c.deref-2.ensures.value
+    ap (bytes_named (chunks_of_store c.offer_all.new.store)) c.deref-4.ensures.value
     ∙ c.in_ok-recipe.ensures.offered.sums
     ∙ ap length (concat-chunks_of params c.args.input.now (omega (arith, min)) valid.max.0)
 
@@ -79,7 +106,7 @@ returns-in_err-session-clause-ingests g c = λ state.
     let early = mid-no_early first mid input c.args.cuts.now recipe name c.in_ok-recipe.ensures.offered c.requires.cuts
     c.requires.open c.requires.room in
     let both = only_fails {T = ℕ} fault (late-fails _ c.commit.result fault
-    (ap (λ (entries : List ℕ). early_refusal mid.opened.book name (length entries)) c.deref-2.ensures.value ∙ early)
+    (ap (λ (entries : List ℕ). early_refusal mid.opened.book name (length entries)) c.deref-4.ensures.value ∙ early)
     c.commit.ensures.late c.in_err-session.was) in
     let told = g.F.Shelf.files c.args.shelf.now in
     let middle = g.F.Shelf.files c.offer_all.new.shelf in
@@ -89,7 +116,7 @@ returns-in_err-session-clause-ingests g c = λ state.
     (λ offered. subst (λ (entries : List ℕ). IfSome middle (λ files. StandsFor name_of mid files state offered →
     IsCutting state.params (recipe_chunks state offered entries) →
     IfSome after (λ then. Unit {0} × (HoldState name_of then state
-    ⊎ HoldState name_of then (committed_state state offered name entries))))) c.deref-2.ensures.value
+    ⊎ HoldState name_of then (committed_state state offered name entries))))) c.deref-4.ensures.value
     (c.in_err-session.ensures.stands state offered)) in
     told_map told (λ files holds stands.
     subst (λ (q : Ends). IngestsInto name_of state name input q files after)
@@ -106,7 +133,7 @@ returns-in_err-session-clause-places g c = λ is.
     let early = mid-no_early first mid c.args.input.now c.args.cuts.now recipe name c.in_ok-recipe.ensures.offered c.requires.cuts
     c.requires.open c.requires.room in
     let both = only_fails {T = ℕ} fault (late-fails _ c.commit.result fault
-    (ap (λ (entries : List ℕ). early_refusal mid.opened.book name (length entries)) c.deref-2.ensures.value ∙ early)
+    (ap (λ (entries : List ℕ). early_refusal mid.opened.book name (length entries)) c.deref-4.ensures.value ∙ early)
     c.commit.ensures.late c.in_err-session.was) in
     let gave = passed-is (Store fault) c.from_residual-in_err-session.result c.from_residual-in_err-session.ensures.1 in
     subst (λ (q : Ends). IfErr q Fails) (sym gave ∙ is) both.0
@@ -124,7 +151,7 @@ overflow_cast-result-2 g c =
     let many : length recipe ≡ length c.args.cuts.now =
     had.count ∙ count-between input 0 (cuts_of first.opened.head.params input) ∙ sym (ap length c.requires.cuts) in
     let grown = chunks-committed first mid chunks recipe had new
-    (session_record mid c.args.name.now (length input) c.deref-2.result.now) c.in_ok-session.ensures.committed refl in
+    (session_record mid c.args.name.now (length input) c.deref-4.result.now) c.in_ok-session.ensures.committed refl in
     let now : length c.chunks.result.now ≡ length (chunks_in new.opened.book.sessions) =
     ap length c.chunks.ensures ∙ ap (λ (book : BookState). length (chunks_in book.sessions)) c.book-2.ensures.book in
     let then : length c.chunks-known.result.now ≡ length (chunks_in first.opened.book.sessions) =
@@ -144,7 +171,7 @@ returns-clause-ingests g c = λ state.
     let recipe = c.in_ok-recipe.recipe.items in
     let middle = g.F.Shelf.files c.offer_all.new.shelf in
     let after = g.F.Shelf.files c.commit.new.shelf in
-    let same : c.deref-2.result.now ≡ recipe = c.deref-2.ensures.value in
+    let same : c.deref-4.result.now ≡ recipe = c.deref-4.ensures.value in
     let now : length c.chunks.result.now ≡ length (chunks_in new.opened.book.sessions) =
     ap length c.chunks.ensures ∙ ap (λ (book : BookState). length (chunks_in book.sessions)) c.book-2.ensures.book in
     let then : length c.chunks-known.result.now ≡ length (chunks_in first.opened.book.sessions) =
