@@ -18,7 +18,7 @@ from pathlib import Path
 from random import Random
 from subprocess import DEVNULL, run
 
-from plan import PROGRAM, measure, write_random
+from plan import PROGRAM, measure, write_random, write_zeros
 
 ROOT = Path(__file__).resolve().parent.parent
 MAX_CONTAINER = 2**22
@@ -108,15 +108,9 @@ def print_row(*cells):
     print("|", " | ".join(cells), "|", flush=True)
 
 
-def print_times(what, bench):
+def print_times(what, bench, works):
     times = bench.seconds
-    rows = [
-        ("first `ingest`", "first", "`plan` + `dd conv=fsync`", ["plan", "copy"], 1.35),
-        ("`ingest` once more", "second", "`plan`", ["plan"], 1.35),
-        ("`restore` to /dev/null", "restore", "`sha256sum`", ["sum"], 1.1),
-        ("`restore` to a file", "restore to a file", "`sha256sum`", ["sum"], 1.1),
-    ]
-    for work, name, beside, yardsticks, most in rows:
+    for work, name, beside, yardsticks, most in works:
         yardstick = sum(times[it] for it in yardsticks)
         ratio = f"{times[name] / yardstick:.2f}"
         print_row(what, work, f"{times[name]:.3f}", beside, f"{yardstick:.3f}", ratio, f"{most}")
@@ -141,8 +135,25 @@ def print_input(what, write, given, room):
     write(path, given.size)
     for _ in range(given.rounds):
         measure_round(bench, path)
-    print_times(what, bench)
+    works = [
+        ("first `ingest`", "first", "`plan` + `dd conv=fsync`", ["plan", "copy"], 1.35),
+        ("`ingest` once more", "second", "`plan`", ["plan"], 1.35),
+        ("`restore` to /dev/null", "restore", "`sha256sum`", ["sum"], 1.1),
+        ("`restore` to a file", "restore to a file", "`sha256sum`", ["sum"], 1.1),
+    ]
+    print_times(what, bench, works)
     print_peaks(what, bench, given.size)
+
+
+def print_zeros(given, room):
+    """An input of one chunk again and again: an ingest has little to do but to cut and to name."""
+    bench, path = Bench(room), Path(room, "input")
+    write_zeros(path, given.size)
+    for _ in range(given.rounds):
+        make_store(bench.room)
+        bench.backup("plan", "plan", source=path)
+        bench.backup("first", "ingest", "a", source=path)
+    print_times("zeros", bench, [("first `ingest`", "first", "`plan`", ["plan"], 1.1)])
 
 
 # Stores of many chunks, written without the program.
@@ -235,6 +246,7 @@ def main():
     with tempfile.TemporaryDirectory(dir=given.folder) as room:
         print_input("random bytes", write_random, given, room)
         print_input("versions of a tree", write_versions, given, room)
+        print_zeros(given, room)
     with tempfile.TemporaryDirectory(dir=given.folder) as room:
         for chunks in (given.chunks // 10, given.chunks):
             print_book(chunks, given, room)

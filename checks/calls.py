@@ -200,6 +200,18 @@ def chunks_cost_one_call_each():
     expect_at_most("times that it is opened", 2, indexes_of(calls, "container.0.0", ("open",)))
 
 
+@traced_test
+def repeats_inside_an_input_cost_no_call():
+    text = bytes(20_000)
+    files = {"head": twice()["head"]}
+    distinct = len(opened(with_ingest(files, b"n", text)).book.chunks)
+    calls, _ = calls_of(["ingest", "n"], text, files)
+    expect_same("reads of what was written", [], indexes_of(calls, "container.0.0", ("read",)))
+    once = with_ingest(files, b"m", text)
+    calls, _ = calls_of(["ingest", "n"], text, once)
+    expect_at_most("reads of repeats", distinct, indexes_of(calls, "container.0.0", ("read",)))
+
+
 def expect_at_most(what, most, came):
     if len(came) > most:
         raise Mismatch(f"{what}: wanted at most {most}, came {len(came)}")

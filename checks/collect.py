@@ -22,7 +22,7 @@ SUBJECTS = {
     "faults": 18,
     "store_streams": 6,
     "interruptions": 9,
-    "calls": 11,
+    "calls": 12,
     "disturbances": 6,
     "documents": 7,
     "demo": 2,
