@@ -1,5 +1,5 @@
 //! The fields of the lines that `refs` and `plan` print. There may be millions of lines, and these
-//! calls take less time than the formatting of `write!`.
+//! calls take fewer instructions than the formatting of `write!`, and no memory beside the text.
 ghost use Rattle.std.specs.Prelude.{◌≡◌, ◌++◌, ◌∷◌, [], OnOk, string_bytes};
 ghost use Rattle.std.specs.Fmt.{decimal};
 ghost use Rattle.hex.specs.Hex.{encode_lower};
