@@ -8,7 +8,7 @@ pub mod Shards
 pub mod RegionFields
 -- the first item with the same bytes
 pub mod Leaders
--- pairs of a name and a number, sorted, and the leaders of a run of equal names
+-- pairs of a key and a number, sorted, and the leaders of a run of equal keys
 pub mod Runs
--- names of which there are only three, for tests
+-- names of which there are only three, and three of one key, for tests
 pub mod FewNames

@@ -1,8 +1,8 @@
-//! The leader of each item, by a parallel sort of the names.
+//! The leader of each item, by a parallel sort of keys that are read out of the names.
 ghost use Rattle.std.specs.Prelude.{◌≡◌, ◌≢◌, ◌⊎◌, ◌<◌, ◌↔◌, ℕ, [], All, Contains, IfOk, IfSome, IfNone, IsTrue, length};
 ghost use Rattle.shard_plan.specs.Items.{chunk_of};
 ghost use Rattle.shard_plan.specs.Leaders.{leader_of, leaders_of};
-ghost use Rattle.shard_plan.specs.Runs.{AreNumbered, AreSortedPairs, BeginsRun, IsLeader};
+ghost use Rattle.shard_plan.specs.Runs.{AreNumbered, AreSortedPairs, BeginsRun, IsLeader, key_of as name_key};
 ghost use Rattle.shard_plan.specs.Shards.{IsPlanOf};
 
 use crate::{Items, ShardPlan};
@@ -11,10 +11,12 @@ use sd_base::OutOfMemory;
 use std::alloc::Global;
 use std::thread::Threads;
 
-/// For each item the least item with the same bytes, its leader. The names are sorted in several
-/// threads, each with the number of its item; no bytes of chunks are moved. Items of one name are
-/// then compared with the leaders found among them, by their bytes. The plan is that of the items,
-/// and this way of finding the leaders does not read it. It fails only if memory runs out.
+/// For each item the least item with the same bytes, its leader. The last eight bytes of the names
+/// are sorted in several threads, each with the number of its item; no bytes of chunks are moved.
+/// Items that agree in these bytes are then compared with the leaders found among them, by their
+/// names and their bytes. Any namer is right. One that gives many different chunks the same last
+/// eight bytes makes this slow. The plan is that of the items, and this way of finding the leaders
+/// does not read it. It fails only if memory runs out.
 pub fn leaders_by_fold<H: Threads + Sync>(
     rt: &H,
     alloc: Global,
@@ -28,12 +30,12 @@ pub fn leaders_by_fold<H: Threads + Sync>(
     leaders_of_pairs(alloc, items, &pairs)
 }
 
-// The name and the number of each item, sorted by the name and then by the number.
+// The key and the number of each item, sorted by the key and then by the number.
 fn sorted_pairs<H: Threads + Sync>(
     rt: &H,
     alloc: Global,
     items: &Items<'_>,
-) -> Result<Vec<([u8; 32], u32)>, OutOfMemory>
+) -> Result<Vec<(u64, u32)>, OutOfMemory>
     ensures pairs { IfOk result (λ pairs. AreSortedPairs items.now.names pairs.items) }
 {
     let mut pairs = numbered(alloc, items)?;
@@ -41,24 +43,35 @@ fn sorted_pairs<H: Threads + Sync>(
     Ok(pairs)
 }
 
-// The name and the number of each item, in the order of the numbers.
-fn numbered(alloc: Global, items: &Items<'_>) -> Result<Vec<([u8; 32], u32)>, OutOfMemory>
+// The key and the number of each item, in the order of the numbers.
+fn numbered(alloc: Global, items: &Items<'_>) -> Result<Vec<(u64, u32)>, OutOfMemory>
     ensures numbered { IfOk result (λ pairs. AreNumbered items.now.names pairs.items) }
 {
     let count = items.len();
     let mut pairs = Vec::with_capacity(alloc, count as usize)?;
     for i in 0..count {
-        pairs.push((*items.name(i), i))?;
+        pairs.push((key_of(items.name(i)), i))?;
     }
     Ok(pairs)
 }
 
-// The leaders of the items, from their sorted pairs. Items of equal bytes have equal names, so the
-// leader of an item is in the run of its name, and not after it.
+// The key that a name is sorted by: its last eight bytes, the high byte first. A pair of a key and a
+// number is less than half as long as one of a name and a number, and is compared faster. These are
+// not the first eight bytes, because a name that is a short number with zeros before it differs
+// from others at its end.
+fn key_of(name: &[u8; 32]) -> u64
+    ensures key { result ≡ name_key name.now }
+{
+    let [.., b24, b25, b26, b27, b28, b29, b30, b31] = *name;
+    u64::from_be_bytes([b24, b25, b26, b27, b28, b29, b30, b31])
+}
+
+// The leaders of the items, from their sorted pairs. Items of equal bytes have equal names, so they
+// have equal keys: the leader of an item is in the run of its key, and not after it.
 fn leaders_of_pairs(
     alloc: Global,
     items: &Items<'_>,
-    pairs: &[([u8; 32], u32)],
+    pairs: &[(u64, u32)],
 ) -> Result<Vec<u32>, OutOfMemory>
     requires pairs { AreSortedPairs items.now.names pairs.now }
     ensures leaders { IfOk result (λ leaders. leaders.items ≡ leaders_of items.now.chunks) }
@@ -75,7 +88,7 @@ fn leaders_of_pairs(
 }
 
 // Empties the list of a run's leaders at the first pair of the next run.
-fn begin_run(pairs: &[([u8; 32], u32)], place: usize, run: &mut Vec<u32>)
+fn begin_run(pairs: &[(u64, u32)], place: usize, run: &mut Vec<u32>)
     requires inside { place < length pairs.now }
     ensures run { (run.new.items ≡ run.old.items)
         ⊎ ((run.new.items ≡ []) × BeginsRun pairs.now place) }
@@ -85,8 +98,8 @@ fn begin_run(pairs: &[([u8; 32], u32)], place: usize, run: &mut Vec<u32>)
     }
 }
 
-// Whether the pair before a place has another name, or there is none.
-fn begins_run(pairs: &[([u8; 32], u32)], place: usize) -> bool
+// Whether the pair before a place has another key, or there is none.
+fn begins_run(pairs: &[(u64, u32)], place: usize) -> bool
     requires inside { place < length pairs.now }
     ensures begins { IsTrue result → BeginsRun pairs.now place }
 {

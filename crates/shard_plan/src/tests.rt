@@ -1,7 +1,7 @@
 ghost use Rattle.std.specs.Prelude.{◌≡◌, ◌<◌, ◌≤◌, length, map};
 ghost use Rattle.sd_base.specs.Cutting.{RiseWithin, chunks_between};
 ghost use Rattle.sd_base.specs.declared.limits.TheConstants.{MAX_INPUT};
-ghost use Rattle.shard_plan.specs.FewNames.{few_name, length-few_name};
+ghost use Rattle.shard_plan.specs.FewNames.{few_name, front_name, length-few_name, length-front_name};
 ghost use Rattle.shard_plan.specs.Shards.{AreShards};
 
 use crate::{Items, ShardPlan, leaders_by_fold};
@@ -24,6 +24,22 @@ impl Namer for FewNamer {
     }
 
     ghost whole = { length-few_name };
+}
+
+/// Names bytes by their number modulo 3 in the first byte, so that all names have the same key.
+#[derive(Clone, Copy)]
+struct FrontNamer;
+
+impl Namer for FrontNamer {
+    ghost name_of = { front_name };
+
+    fn name(&self, bytes: &[u8]) -> [u8; 32] {
+        let mut name = [0; 32];
+        name[0] = (bytes.len() % 3) as u8;
+        name
+    }
+
+    ghost whole = { length-front_name };
 }
 
 /// Items of these names, which are a namer's.
@@ -119,9 +135,25 @@ fn leaders_are_the_first_chunks_with_the_bytes(rt: HostRuntime) -> Result<(), Fa
             *byte = (state >> 31) as u8;
         }
         check_leaders(&rt, rt.alloc(), &FewNamer, &text, &ends, 3)?;
+        check_leaders(&rt, rt.alloc(), &FrontNamer, &text, &ends, 3)?;
         check_leaders(&rt, rt.alloc(), &LengthNamer, &text, &ends, 256)?;
     }
     Ok(())
+}
+
+#[test]
+fn items_that_agree_in_the_last_eight_bytes_of_their_names_have_leaders_of_their_own(
+    rt: HostRuntime,
+) -> Result<(), Fail> {
+    // The chunks are x, xx, y, xx, xxxx and y: their names differ in the first byte, if at all.
+    check_leaders(
+        &rt,
+        rt.alloc(),
+        &FrontNamer,
+        b"xxxyxxxxxxy".as_slice(),
+        [1, 3, 4, 6, 10, 11].as_slice(),
+        2,
+    )
 }
 
 #[test]

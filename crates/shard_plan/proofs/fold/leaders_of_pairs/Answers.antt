@@ -1,9 +1,9 @@
 use Rattle.std.proofs.Common.{◌≡◌, ◌<◌, length, subst, ◌∙◌, arith}
 use Rattle.std.proofs.lemmas.List.{length-set}
-use Rattle.std.specs.Prelude.{Contains, []}
+use Rattle.std.specs.Prelude.{Contains}
 use Rattle.std.proofs.lemmas.List.Elements.{All-get_or}
 use Rattle.shard_plan.proofs.Runs.{AreDone, all_done, done_more, has_more, leader_found, run_begun}
-use Rattle.shard_plan.specs.Runs.{IsNamed, number_at}
+use Rattle.shard_plan.specs.Runs.{IsKeyed, number_at}
 use Rattle.shard_plan.proofs.fold.leaders_of_pairs.Goals as goal
 
 pub leader_in-requires : goal.leader_in-requires
@@ -17,7 +17,7 @@ leader_in-requires c =
     run_begun chunks names pairs c.loop-place.run.items run place c.requires.pairs c.begin_run.ensures.run
     c.loop-place.invariant.run c.loop-place.invariant.has
     in
-    let mine = All-get_or (IsNamed names) pairs place ([], 0) c.loop-place-test.true c.requires.pairs.named in
+    let mine = All-get_or (IsKeyed names) pairs place (0, 0) c.loop-place-test.true c.requires.pairs.keyed in
     record {
       inside = omega (arith, mine.0, c.len-count.ensures.named.one_each);
       leaders = begun.0;
@@ -38,7 +38,7 @@ loop-place-preserved c =
     run_begun chunks names pairs c.loop-place.run.items run place c.requires.pairs c.begin_run.ensures.run
     c.loop-place.invariant.run c.loop-place.invariant.has
     in
-    let mine = All-get_or (IsNamed names) pairs place ([], 0) c.loop-place-test.true c.requires.pairs.named in
+    let mine = All-get_or (IsKeyed names) pairs place (0, 0) c.loop-place-test.true c.requires.pairs.keyed in
     let inside : number_at pairs place < length leaders =
     omega (arith, mine.0, c.len-count.ensures.named.one_each, c.loop-place.invariant.len)
     in
