@@ -8,11 +8,12 @@ import subprocess
 from dataclasses import replace
 from random import Random
 
-from folders import COMMANDS, FOLDER, LONG, TEXT, with_ingest, with_tails
+from folders import COMMANDS, FOLDER, LONG, TEXT, expect_files, with_ingest, with_tails
 from harness import PROGRAM, Mismatch, expect_same
 from reference import DEFAULTS, SPARSE_ZERO, keys_of
 from reference_store import (
     MAX_CHUNK,
+    files_in,
     ingest,
     init,
     opened,
@@ -210,6 +211,21 @@ def repeats_inside_an_input_cost_no_call():
     once = with_ingest(files, b"m", text)
     calls, _ = calls_of(["ingest", "n"], text, once)
     expect_at_most("reads of repeats", distinct, indexes_of(calls, "container.0.0", ("read",)))
+
+
+@traced_test
+def repeats_of_any_chunk_at_any_distance_cost_no_call():
+    """The input has more than 65,536 chunks, and what repeats is seldom its first chunk."""
+    draw, files = Random(46), {}
+    init(files, SHORTEST)
+    chunks = [draw.randbytes(48) for _ in range(5000)]
+    text = b"".join(chunks + draw.choices(chunks, k=61_000))
+    once = with_ingest(files, b"m", text)
+    for before, most in ((files, 0), (once, len(chunks))):
+        calls, status = calls_of(["ingest", "n"], text, before)
+        expect_same("the status", 0, status)
+        expect_at_most("reads of chunks", most, indexes_of(calls, "container.0.0", ("read",)))
+        expect_files(with_ingest(before, b"n", text), files_in(FOLDER))
 
 
 def expect_at_most(what, most, came):

@@ -71,6 +71,17 @@ def chunks_of_all_containers_are_restored_in_any_order():
 
 
 @test
+def repeats_of_chunks_of_earlier_containers_are_stored_once():
+    twin, chunks = new_twin(FIXED), whole_chunks()
+    # Chunk 20 is in container 1 and chunk 27 in container 2. Repeats come between and at the end.
+    order = [*range(20), 0, 12, 13, 19, 5, *range(20, 27), 25, 0, 26, 13, *range(27, 30), 12, 29, 0]
+    text = b"".join(chunks[number] for number in order)
+    twin.ingest("a", text)
+    expect_same("the session", text, twin.restore("a").output)
+    expect_sizes(sizes_of([LENGTH] * 30), twin.files)
+
+
+@test
 def later_container_is_filled_exactly_and_the_next_opened():
     draw = Random(52)
     full = MAX_CONTAINER - CONTAINER_HEADER

@@ -416,10 +416,13 @@ def threads_are_held_back():
 
 @test
 def workers_without_threads_do_the_same():
-    """The system starts no thread, or fewer than there are workers."""
+    """The system starts no thread, or fewer than there are workers.
+
+    The names of the input are so many that threads would share their sort.
+    """
     if not threads_are_held_back():
         raise NotTried("a limit on threads does not hold the program back")
-    keys, text = ["workers=4", "segment=1000"], Random(45).randbytes(9000)
+    keys, text = ["workers=4", "segment=1000"], Random(45).randbytes(9000) + bytes(400_000)
     lines, after = plan(SPARSE_ZERO, text), twice()
     line = wanted_run(ingest, after, b"n", text)
 

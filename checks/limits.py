@@ -139,6 +139,8 @@ def expect_refused_after_reading(source, note):
 def places_up_to_their_number_are_taken_in():
     recipe = bytes(4 * (MAX_PLACES - 1))
     write_book([record_of_zeros(b"p", 1, MAX_PLACES - 1, recipe)], containers_of_zeros(1))
+    # Two places of one chunk are one too many.
+    expect_refused_after_reading(bytes(131_072), "too many places")
     came = run([FOLDER, "ingest", "q"], b"\x00", changes=FOLDER)
     expect(came, output=ingest_line("q", 1, 1, 0))
     expect_refused_after_reading(b"abc", "too many places")
@@ -161,10 +163,12 @@ def chunks_up_to_their_number_are_taken_in():
     recipe = struct.pack(f">{MAX_CHUNKS - 1}I", *range(MAX_CHUNKS - 1))
     record = record_of_zeros(b"c", MAX_CHUNKS - 1, MAX_CHUNKS - 1, recipe)
     write_book([record], containers_of_zeros(MAX_CHUNKS - 1))
-    came = run([FOLDER, "ingest", "d"], b"abc", changes=FOLDER)
-    expect(came, output=ingest_line("d", 3, 1, 1))
-    expect_same("the last container", 18, Path(FOLDER, "container.0.1").stat().st_size)
+    # Two equal chunks need one number.
+    text = bytes(131_072)
+    came = run([FOLDER, "ingest", "d"], text, changes=FOLDER)
+    expect(came, output=ingest_line("d", 131_072, 2, 1))
+    expect_same("the last container", 65_551, Path(FOLDER, "container.0.1").stat().st_size)
     expect_refused_after_reading(b"abcd", "too many chunks")
     # A chunk that is stored needs no number.
-    came = run([FOLDER, "ingest", "x"], b"abc", changes=FOLDER)
-    expect(came, output=ingest_line("x", 3, 1, 0))
+    came = run([FOLDER, "ingest", "x"], text, changes=FOLDER)
+    expect(came, output=ingest_line("x", 131_072, 2, 0))

@@ -80,6 +80,17 @@ def chunks_of_a_long_session_are_stored_once():
 
 
 @test
+def many_different_chunks_are_taken_in_in_time():
+    """A search for repeats that compares each chunk with all others would not end in time."""
+    text, least = Random(24).randbytes(48 * 400_000), replace(DEFAULTS, min=48, max=48)
+    os.mkdir(FOLDER)
+    expect_prints(["init", *keys_of(least)], b"ready\n")
+    line = b"ingested a 19200000 bytes 400000 places 400000 new\n"
+    expect_prints(["ingest", "a"], line, text)
+    expect_prints(["restore", "a"], text)
+
+
+@test
 def new_store_has_its_settings():
     for params in (DEFAULTS, SPARSE, SHORT, LONG, replace(SPARSE, polynomial=0x10001, bits=16)):
         new_twin(params).list()
@@ -191,6 +202,7 @@ def drawn_ingests_of_the_longest_chunks_are_restored():
         full[:MAX_CHUNK],
         full[: MAX_CHUNK + 1],
         full[2 * MAX_CHUNK :] + full[:MAX_CHUNK],
+        full[: 2 * MAX_CHUNK] * 2,
         full,
         full + full[:1],
         b"",
