@@ -92,6 +92,7 @@ fn begin_run(pairs: &[(u64, u32)], place: usize, run: &mut Vec<u32>)
     requires inside { place < length pairs.now }
     ensures run { (run.new.items ≡ run.old.items)
         ⊎ ((run.new.items ≡ []) × BeginsRun pairs.now place) }
+    ensures emptied { BeginsRun pairs.now place → run.new.items ≡ [] }
 {
     if begins_run(pairs, place) {
         run.clear();
@@ -101,7 +102,7 @@ fn begin_run(pairs: &[(u64, u32)], place: usize, run: &mut Vec<u32>)
 // Whether the pair before a place has another key, or there is none.
 fn begins_run(pairs: &[(u64, u32)], place: usize) -> bool
     requires inside { place < length pairs.now }
-    ensures begins { IsTrue result → BeginsRun pairs.now place }
+    ensures begins { IsTrue result ↔ BeginsRun pairs.now place }
 {
     place == 0 || pairs[place - 1].0 != pairs[place].0
 }
