@@ -3,8 +3,10 @@
 import os
 import subprocess
 import tempfile
+from concurrent.futures import ProcessPoolExecutor
 from contextlib import contextmanager
 from itertools import zip_longest
+from multiprocessing import get_context
 from pathlib import Path
 from typing import NamedTuple
 
@@ -187,11 +189,11 @@ class Tally(NamedTuple):
     not_tried: int = 0
 
 
-def end_of(function):
+def end_of(name):
     """Runs a test in a fresh room. Returns how it counts, and in one line why it did not pass."""
     try:
         with fresh_room():
-            function()
+            TESTS[name]()
     except NotTried as reason:
         return Tally(not_tried=1), f"not tried, since {reason}"
     except Mismatch as mismatch:
@@ -202,11 +204,11 @@ def end_of(function):
 
 
 def run_tests():
-    """Runs the tests, and returns how many passed, failed and were not tried."""
+    """Runs the tests side by side, and returns how many passed, failed and were not tried."""
     tally = Tally()
-    for name, function in TESTS.items():
-        end, reason = end_of(function)
-        tally = Tally(*map(sum, zip(tally, end)))
-        if reason is not None:
-            print(f"{name}: {reason}", flush=True)
+    with ProcessPoolExecutor(mp_context=get_context("fork")) as pool:
+        for name, (end, reason) in zip(TESTS, pool.map(end_of, TESTS)):
+            tally = Tally(*map(sum, zip(tally, end)))
+            if reason is not None:
+                print(f"{name}: {reason}", flush=True)
     return tally
