@@ -14,13 +14,13 @@ pub record AddsCandidates (params : RawParams) (text : List ℕ) (from to : ℕ)
   pub bits : length after ≡ length before
   pub added : (p : ℕ) → has after p ≡ (has before p || is_candidate_within params text from to p)
 
--- the segment of a position above 0: segment k has the positions above k * segment up to and
--- including (k + 1) * segment
+-- the segment in which a position above 0 lies: the segments follow one another from position 1 on,
+-- and each but the last has `segment` positions
 abbrev pub segment_of : ℕ → ℕ → ℕ
 segment_of segment p = (p - 1) / segment
 
--- whether a position is a candidate in a segment of the workers from `low` up to but not including
--- `high`: worker w scans the segments whose number is w modulo the number of workers
+-- whether a position is a candidate that a worker from `low` up to but not including `high` finds:
+-- the segments go to the workers in turn
 abbrev pub is_candidate_of : RawParams → List ℕ → ℕ → ℕ → ℕ → ℕ → ℕ → Bool
 is_candidate_of params text segment workers low high p =
     nat_le low (segment_of segment p % workers) && nat_lt (segment_of segment p % workers) high

@@ -13,8 +13,7 @@ use sd_base::{Gate, OutOfMemory, Params, Stage};
 use std::alloc::Global;
 use std::thread::{Threads, join};
 
-// What the workers of a scan share: worker w scans the segments whose number is w modulo the number
-// of workers.
+// What the workers of a scan share. The segments go to the workers in turn.
 #[derive(Drop)]
 struct Work<'a, G> {
     tables: &'a Tables,
@@ -141,6 +140,3 @@ fn scan_segment<G: Gate>(work: &Work<G>, k: u32, map: &mut PlainMap)
     let to = (from + work.segment).min(work.text.len() as u32);
     scan_range(work.tables, work.params, work.text, from, to, map);
 }
-
-#[cfg(test)]
-mod tests;
