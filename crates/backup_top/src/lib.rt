@@ -4,8 +4,6 @@
 //! restores and drops sessions, and counts references. All rules here are this project's own.
 #![tactic(auto)]
 
-#[cfg(test)]
-mod drop_tests;
 mod drop_text;
 mod dropping;
 mod in_memory;
@@ -29,10 +27,6 @@ mod restore;
 mod runner;
 mod settings;
 mod store_outcome;
-#[cfg(test)]
-mod store_tests;
-#[cfg(test)]
-mod tests;
 mod words;
 mod write_made;
 

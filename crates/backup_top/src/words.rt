@@ -8,9 +8,6 @@ ghost use Rattle.backup_top.specs.Words.{command_with, texts_of};
 use crate::settings::{KeySet, read_settings};
 use sd_base::{BadKind, BadWords, Command, Name, Quiet};
 
-#[cfg(test)]
-mod tests;
-
 /// Reads the words of the command line, without the path of the store: returns the command that
 /// they name, or the first word that fails. It takes no memory.
 pub fn read_words(words: &[String]) -> Result<Command, BadWords>

@@ -141,6 +141,3 @@ fn lowest_from(word: u64, from: u32) -> Option<u32>
         Some(from + rest.trailing_zeros())
     }
 }
-
-#[cfg(test)]
-mod tests;

@@ -10,6 +10,3 @@ pub fn hex_of(alloc: Global, name: &[u8; 32]) -> Result<String, OutOfMemory>
 {
     Ok(hex::encode(alloc, name.as_slice())?)
 }
-
-#[cfg(test)]
-mod tests;

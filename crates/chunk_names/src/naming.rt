@@ -96,6 +96,3 @@ fn share_of(chunks: usize, workers: u32) -> usize
 {
     chunks.div_ceil(workers as usize).max(1)
 }
-
-#[cfg(test)]
-mod tests;

@@ -22,6 +22,3 @@ pub use packer::Packer;
 pub use placing::places;
 pub use sizing::container_sizes;
 pub use spot::Spot;
-
-#[cfg(test)]
-mod tests;

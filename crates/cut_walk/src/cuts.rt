@@ -56,6 +56,3 @@ pub fn cuts_from(
     }
     Ok(cuts)
 }
-
-#[cfg(test)]
-mod tests;

@@ -62,6 +62,3 @@ fn first_long_enough(map: &PlainMap, params: &Params, start: u32, furthest: u32)
     let earliest = start.checked_add(params.min)?;
     map.next_within(earliest, furthest)
 }
-
-#[cfg(test)]
-mod tests;

@@ -51,16 +51,3 @@ pub use source::Source;
 pub use source_reader::{ReadFault, read_all};
 pub use std_sink::StdSink;
 pub use std_source::StdSource;
-
-#[cfg(test)]
-mod faulty_files;
-#[cfg(test)]
-mod folder_tests;
-#[cfg(test)]
-mod shelf_steps;
-#[cfg(test)]
-mod shelf_tests;
-#[cfg(test)]
-mod std_tests;
-#[cfg(test)]
-mod stream_tests;

@@ -25,6 +25,3 @@ pub use line::Line;
 pub use planning::plan;
 pub use session::ingest;
 pub use summary::Summary;
-
-#[cfg(test)]
-mod tests;

@@ -80,6 +80,3 @@ impl Window {
         self.value % (1 << params.bits) == u64::from(params.target)
     }
 }
-
-#[cfg(test)]
-mod tests;

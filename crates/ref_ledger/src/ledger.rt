@@ -84,6 +84,3 @@ impl Ledger {
         self.counts[chunk as usize]
     }
 }
-
-#[cfg(test)]
-mod tests;

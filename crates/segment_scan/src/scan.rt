@@ -99,6 +99,3 @@ fn mark(map: &mut PlainMap, low_bits: LowBits, fingerprint: u64, p: u32)
         map.set(p);
     }
 }
-
-#[cfg(test)]
-mod tests;

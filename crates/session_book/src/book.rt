@@ -116,8 +116,8 @@ impl Book {
         self.used += DROP_LEN as u64;
     }
 
-    // Whether a record may follow those of the book.
-    pub(crate) fn may_add(&self, entry: &Record) -> bool
+    /// Whether a record may follow those of the book, so that `add` may be called with it.
+    pub fn may_add(&self, entry: &Record) -> bool
         ensures { IsTrue result ↔ MayFollow self.now.max self.now.sessions entry.now }
     {
         match entry {

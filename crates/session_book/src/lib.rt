@@ -17,8 +17,3 @@ pub use record_writer::encode_record;
 pub use replay::BookFault;
 pub use sd_base::{IngestRecord, NewChunk, NewChunks, Recipe, Record};
 pub use step::{Step, next_record};
-
-#[cfg(test)]
-mod book_tests;
-#[cfg(test)]
-mod tests;

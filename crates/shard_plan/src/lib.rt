@@ -14,6 +14,3 @@ mod regions;
 pub use fold::leaders_by_fold;
 pub use items::Items;
 pub use regions::ShardPlan;
-
-#[cfg(test)]
-mod tests;

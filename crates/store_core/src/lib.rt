@@ -28,6 +28,3 @@ pub use laws::{files_hold_one_state, held_states_are_undamaged, opening_has_one_
 pub use new_store::init;
 pub use settings::settings_of;
 pub use store::Store;
-
-#[cfg(test)]
-mod tests;

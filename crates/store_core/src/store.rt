@@ -132,6 +132,14 @@ impl<N: Namer> Store<N> {
         &self.book
     }
 
+    /// The chunks that were offered since the last commit, in order. They have the numbers after those
+    /// of the book.
+    pub fn offered(&self) -> &[NewChunk]
+        ensures offered { result.now ≡ self.now.offered }
+    {
+        &self.offered
+    }
+
     /// Whether `offer`, `commit` and `drop_session` may be called: true until one of them returns
     /// `Damaged`, `ShelfFault` or `OutOfMemory`. Nothing may be offered to a store that is not sound,
     /// and it must not be written to.
@@ -220,8 +228,3 @@ fn opened_store<N: Namer>(
         is_sound: true,
     })
 }
-
-#[cfg(test)]
-mod drop_tests;
-#[cfg(test)]
-mod tests;

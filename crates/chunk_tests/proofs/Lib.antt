@@ -1,0 +1,2 @@
+-- the bits of a word of a map
+pub mod WordBits

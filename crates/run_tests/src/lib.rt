@@ -1,0 +1,20 @@
+//! Tests of the top of the tool: rows of whole runs by `run` of `backup_top` over devices in memory.
+//! They stand in a crate of their own, so that `backup_top` is not proved again for them.
+#![tactic(auto)]
+
+#[cfg(test)]
+mod drops;
+#[cfg(test)]
+mod full_stores;
+#[cfg(test)]
+mod notes;
+#[cfg(test)]
+mod plans;
+#[cfg(test)]
+mod runs;
+#[cfg(test)]
+mod shelves;
+#[cfg(test)]
+mod stores;
+#[cfg(test)]
+mod words;

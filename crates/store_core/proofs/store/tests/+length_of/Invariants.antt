@@ -1,6 +1,0 @@
--- The recipe gets shorter.
-use Rattle.std.specs.Prelude.{length}
-use Rattle.store_core.proofs.store.tests.+length_of.Given as goal
-
-abbrev pub decreases-length_of : goal.decreases-length_of
-decreases-length_of l = length l.recipe.now

@@ -1,0 +1,12 @@
+//! Tests of the store of `store_core` and of taking in by `ingest_core`, by their public calls. They
+//! stand in a crate of their own, so that neither crate is proved again for them.
+#![tactic(auto)]
+
+#[cfg(test)]
+mod dropping;
+#[cfg(test)]
+mod ingest;
+#[cfg(test)]
+mod opening;
+#[cfg(test)]
+mod store;
