@@ -300,27 +300,27 @@ fn bad_record(k: u32) -> Result<u32, BookFault> {
 }
 
 // A kind of record, and its body.
-type Short = (u8, &'static [u8]);
+type Body = (u8, &'static [u8]);
 
-const DROP_0: Short = (b'D', &[0; 4]);
+const DROP_0: Body = (b'D', &[0; 4]);
 
-const DROP_1: Short = (b'D', &[0, 0, 0, 1]);
+const DROP_1: Body = (b'D', &[0, 0, 0, 1]);
 
 // Session `a` again, of no bytes.
-const AGAIN: Short = (b'I', b"\x01a\0\0\0\0\0\0\0\0\0\0\0\0");
+const AGAIN: Body = (b'I', b"\x01a\0\0\0\0\0\0\0\0\0\0\0\0");
 
 // Session `b`, of one chunk. It has as many bytes as its chunk, or one less or more, or names a
 // chunk that does not exist.
-const RIGHT: Short = (b'I', b"\x01b\0\0\0\x40\0\0\0\0\0\0\0\x01\0\0\0\0");
+const RIGHT: Body = (b'I', b"\x01b\0\0\0\x40\0\0\0\0\0\0\0\x01\0\0\0\0");
 
-const FEW: Short = (b'I', b"\x01b\0\0\0\x3f\0\0\0\0\0\0\0\x01\0\0\0\0");
+const FEW: Body = (b'I', b"\x01b\0\0\0\x3f\0\0\0\0\0\0\0\x01\0\0\0\0");
 
-const MANY: Short = (b'I', b"\x01b\0\0\0\x41\0\0\0\0\0\0\0\x01\0\0\0\0");
+const MANY: Body = (b'I', b"\x01b\0\0\0\x41\0\0\0\0\0\0\0\x01\0\0\0\0");
 
-const BEYOND: Short = (b'I', b"\x01b\0\0\0\x40\0\0\0\0\0\0\0\x02\0\0\0\0\0\0\0\x02");
+const BEYOND: Body = (b'I', b"\x01b\0\0\0\x40\0\0\0\0\0\0\0\x02\0\0\0\0\0\0\0\x02");
 
 // Appends the record of session `a`, whose two chunks have 64 and 8 bytes, and two more.
-fn append_a_and(out: &mut Vec<u8>, second: Short, third: Short) -> Result<(), AllocError> {
+fn append_a_and(out: &mut Vec<u8>, second: Body, third: Body) -> Result<(), AllocError> {
     append_a(out)?;
     append_sealed(out, second.0, &[second.1])?;
     append_sealed(out, third.0, &[third.1])
@@ -356,8 +356,8 @@ fn damage_is_first(
 // Whether the first damage of the record of `a` and these two is this.
 fn damage_after_a_is(
     alloc: Global,
-    second: Short,
-    third: Short,
+    second: Body,
+    third: Body,
     max: u32,
     want: Result<u32, BookFault>,
 ) -> bool {
@@ -382,7 +382,7 @@ const RECIPE: Result<u32, BookFault> = Err(BookFault::Damaged(Damage::Recipe {
     place: 1,
 }));
 
-static FIRST_DAMAGES: [(Short, Short, u32, Result<u32, BookFault>); 9] = [
+static FIRST_DAMAGES: [(Body, Body, u32, Result<u32, BookFault>); 9] = [
     (DROP_0, AGAIN, 256, TWO),
     (RIGHT, DROP_1, 64, TWO),
     (RIGHT, DROP_1, 63, RECORD_0),

@@ -6,16 +6,12 @@ use std::alloc::Global;
 pub fn map_of(alloc: Global, positions: &[u32]) -> Option<PlainMap> {
     let mut map = PlainMap::new(alloc, 301).ok()?;
     for p in positions {
-        add(&mut map, *p);
+        if *p >= map.bits() {
+            return None;
+        }
+        map.set(*p);
     }
     Some(map)
-}
-
-/// Adds a position, if the map has a bit for it.
-pub fn add(map: &mut PlainMap, p: u32) {
-    if p < map.bits() {
-        map.set(p);
-    }
 }
 
 /// Whether the map has a bit for a position, and the bit is set.

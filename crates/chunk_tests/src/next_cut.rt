@@ -5,7 +5,7 @@ use sd_base::Params;
 use std::alloc::Global;
 
 /// Where a cut is looked for: its start, how many bytes are known, and whether these are all.
-pub type From = (u32, u32, bool);
+pub type Bounds = (u32, u32, bool);
 
 /// Chunks of 64 to `max` bytes.
 pub fn params(max: u32) -> Option<Params> {
@@ -13,14 +13,14 @@ pub fn params(max: u32) -> Option<Params> {
 }
 
 // The next cut in a text of 300 bytes with these candidates and chunks of 64 to `max` bytes.
-fn cut_of(alloc: Global, max: u32, positions: &[u32], from: From) -> Option<Option<u32>> {
+fn cut_of(alloc: Global, max: u32, positions: &[u32], from: Bounds) -> Option<Option<u32>> {
     let params = params(max)?;
     let map = map_of(alloc, positions)?;
     cut_from(&map, &params, from)
 }
 
 // The next cut in a map that has a bit for each known position.
-fn cut_from(map: &PlainMap, params: &Params, from: From) -> Option<Option<u32>> {
+fn cut_from(map: &PlainMap, params: &Params, from: Bounds) -> Option<Option<u32>> {
     let (start, known, at_end) = from;
     if start < known && known < map.bits() {
         Some(next_cut(map, params, start, known, at_end))
@@ -29,7 +29,7 @@ fn cut_from(map: &PlainMap, params: &Params, from: From) -> Option<Option<u32>> 
     }
 }
 
-static CUTS: [(u32, From, Option<u32>); 15] = [
+static CUTS: [(u32, Bounds, Option<u32>); 15] = [
     // the next candidate is past what is known, is known, or does not exist
     (100, (0, 80, false), None),
     (100, (0, 100, false), Some(100)),
@@ -56,18 +56,19 @@ fn the_next_cut_is_the_candidate_the_maximum_or_the_end(rt: HostRuntime) {
     for &(p, from, want) in &CUTS {
         assert!(rt;
             cut_of(rt.alloc(), 256, &[p], from) == Some(want),
-            "position {p}"
+            "position {p} of {} known",
+            from.1
         );
     }
 }
 
-static EQUAL_LIMITS: [(From, Option<u32>); 2] = [
+static EQUAL_LIMITS: [(Bounds, Option<u32>); 2] = [
     ((0, 63, false), None),
     ((0, 64, false), Some(64)),
 ];
 
 #[test]
-fn if_minimum_and_maximum_are_equal_the_next_cut_is_there(rt: HostRuntime) {
+fn if_minimum_and_maximum_are_equal_the_next_cut_is_at_the_maximum(rt: HostRuntime) {
     for &(from, want) in &EQUAL_LIMITS {
         assert!(rt; cut_of(rt.alloc(), 64, &[50, 64, 100], from) == Some(want));
     }

@@ -200,7 +200,7 @@ fn a_drop_is_read_again_whatever_follows(rt: HostRuntime) {
 }
 
 #[test]
-fn the_digests_of_zeros_are_those_of_the_records(rt: HostRuntime) {
+fn the_names_in_these_records_are_the_digests_of_zeros(rt: HostRuntime) {
     assert!(rt; Sha256::digest([0; 64].as_slice()) == Z64);
     assert!(rt; Sha256::digest([0; 8].as_slice()) == Z8);
 }
@@ -283,6 +283,15 @@ static BODIES: [(u8, &[u8], Seen); 13] = [
 ];
 
 #[test]
+fn a_name_of_64_letters_is_read_and_one_of_65_is_not(rt: HostRuntime) {
+    let alloc = rt.alloc();
+    assert!(rt;
+        step_of_body(alloc, b'I', &[&[64], &[b'a'; 64], &[0; 12]]) == Some(Seen::Whole(114))
+    );
+    assert!(rt; step_of_body(alloc, b'I', &[&[65], &[b'a'; 65], &[0; 12]]) == Some(Seen::Bad));
+}
+
+#[test]
 fn a_body_is_read_exactly_if_it_is_in_the_grammar(rt: HostRuntime) {
     for &(kind, body, want) in &BODIES {
         let seen = step_of_body(rt.alloc(), kind, &[body]);
@@ -301,10 +310,10 @@ static WITH_A_CHUNK: [(&[u8], Seen); 5] = [
 ];
 
 #[test]
-fn a_new_chunk_is_read_exactly_if_its_length_is_within_limits(rt: HostRuntime) {
+fn new_chunks_are_read_exactly_if_their_number_and_lengths_are_within_limits(rt: HostRuntime) {
     for &(front, want) in &WITH_A_CHUNK {
         let seen = step_of_body(rt.alloc(), b'I', &[front, &[7; 32], &[0; 4]]);
-        assert!(rt; seen == Some(want));
+        assert!(rt; seen == Some(want), "of {front:?}");
     }
 }
 

@@ -12,11 +12,14 @@ fn small_chunks(target: u32) -> Option<Params> {
     Params::new(0x8000_0000_0000_0001, 13, target, 64, 256).ok()
 }
 
-// Scans a range of a text, if it is one and the map has a bit for each position of the text.
-fn scan(params: &Params, text: &[u8], from: u32, to: u32, map: &mut PlainMap) {
-    if from <= to && to as usize <= text.len() && map.bits() as usize == text.len() + 1 {
+// Scans a range of a text, if it is one and the map has a bit for each position of the text. Returns
+// if it did.
+fn scan(params: &Params, text: &[u8], from: u32, to: u32, map: &mut PlainMap) -> bool {
+    let fits = from <= to && to as usize <= text.len() && map.bits() as usize == text.len() + 1;
+    if fits {
         scan_range(&Tables::new(params), params, text, from, to, map);
     }
+    fits
 }
 
 // A text of 300 bytes, of which this one is 1 and all others are 0.
@@ -32,8 +35,11 @@ fn text_of_one(index: usize) -> [u8; 300] {
 fn map_of_one(alloc: Global, index: usize, from: u32, to: u32) -> Option<PlainMap> {
     let params = small_chunks(1)?;
     let mut map = PlainMap::new(alloc, 301).ok()?;
-    scan(&params, &text_of_one(index), from, to, &mut map);
-    Some(map)
+    if scan(&params, &text_of_one(index), from, to, &mut map) {
+        Some(map)
+    } else {
+        None
+    }
 }
 
 // Whether these are the candidates.

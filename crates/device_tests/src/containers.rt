@@ -428,14 +428,14 @@ fn leaves_the_earlier(rt: HostRuntime, failing: ShelfFail) -> Result<bool, OutOf
 }
 
 fn fails_and_leaves(shelf: &mut MemShelf) -> bool {
-    let (stands, fault) = append_two(shelf);
-    fault == Some(EdgeFault::Failed) && shelf.file(FIRST).starts_with(stands)
+    let (front, fault) = append_two(shelf);
+    fault == Some(EdgeFault::Failed) && shelf.file(FIRST).starts_with(front)
 }
 
 /// What the failed run left is a tail to the next.
 fn appends_after_a_tail(shelf: &mut MemShelf) -> bool {
-    let (stands, fault) = append_two(shelf);
-    fault.is_none() && shelf.file(FIRST) == stands && !shelf.is_loose(FIRST)
+    let (front, fault) = append_two(shelf);
+    fault.is_none() && shelf.file(FIRST) == front && !shelf.is_loose(FIRST)
 }
 
 /// Whether it makes no other call.
@@ -446,8 +446,8 @@ fn appends_two_in_five_calls(rt: HostRuntime) -> Result<bool, OutOfMemory> {
 }
 
 fn appends_all(shelf: &mut MemShelf) -> bool {
-    let (stands, fault) = append_two(shelf);
-    fault.is_none() && stands == THREE_CHUNKS
+    let (front, fault) = append_two(shelf);
+    fault.is_none() && front == THREE_CHUNKS
 }
 
 fn has_failed(shelf: &mut MemShelf, file: File) -> bool {

@@ -34,7 +34,7 @@ fn has_file(rt: HostRuntime, path: &str, bytes: &[u8]) -> bool {
 }
 
 /// Follows these steps on a shelf of a new folder, of which the calls of the system go wrong as
-/// planned. There are three kinds of steps more: `syncs 2` (so many syncs were made so far),
+/// planned. There are three more kinds of steps: `syncs 2` (so many syncs were made so far),
 /// `on_disk head ab` (a file has these bytes on disk), and `interrupted 64` before a call on the
 /// head (so many of the next reads and writes are interrupted, and then none is left).
 fn play(rt: HostRuntime, plan: Plan, folder: &str, steps: &str) -> Result<(), Fail> {

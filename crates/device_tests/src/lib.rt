@@ -1,5 +1,5 @@
 //! Tests of the devices of `edge_traits` and of the containers of `container_pack`, by their public
-//! calls. They stand in a crate of their own, so that neither crate is proved again for them.
+//! calls. They are in a crate of their own, so that neither crate is proved again for them.
 #![tactic(auto)]
 
 #[cfg(test)]

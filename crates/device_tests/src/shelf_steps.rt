@@ -12,7 +12,7 @@ pub(crate) enum Wrong {
     Line(usize),
     /// A file on disk did not have the bytes that it had to, or was not to be there.
     OnDisk,
-    /// The steps went wrong at which this call failed and kept so much.
+    /// A step went wrong while this call was planned to fail and to keep so many bytes.
     Failing(ShelfFail),
     /// More calls were made than had to be, or fewer.
     CallCount,
@@ -103,7 +103,7 @@ pub(crate) fn returns<S: Shelf>(shelf: &mut S, file: File, step: &str) -> bool {
     }
 }
 
-/// The same, or one of the steps that are no calls of a shelf in memory.
+/// Whether a step on a shelf in memory goes as it has to: a call, or a look at a file.
 pub(crate) fn goes_well(shelf: &mut MemShelf, step: &str) -> bool {
     let (name, rest) = first_word(step);
     match file_of(name) {

@@ -199,7 +199,7 @@ fn loosens_by_a_failed_cut(rt: HostRuntime, kept: u32) -> Result<(), Wrong> {
 }
 
 #[test]
-fn no_shelf_fails_at_each_call() -> Result<(), Fail> {
+fn a_shelf_of_no_files_fails_at_each_call() -> Result<(), Fail> {
     fails_for_each_file()?;
     Ok(())
 }

@@ -19,7 +19,7 @@ pub(crate) fn words(alloc: Global, line: &str) -> Result<Vec<String>, AllocError
 /// Bytes of an input or an output.
 #[derive(Clone, Copy)]
 pub(crate) enum Bytes {
-    /// Zeros, so many.
+    /// So many zeros.
     Zeros(usize),
     /// So many bytes: zeros, except for a byte 1 at an index if that lies within them.
     OneAt(usize, usize),

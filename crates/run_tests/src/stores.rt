@@ -271,7 +271,7 @@ fn failing_to_read(alloc: Global) -> Result<(MemSource, MemSink), AllocError> {
     Ok((byte_by_byte(alloc, input, 2)?, sound_sink(alloc)))
 }
 
-/// Whether an ingest of them ends with that fault, and writes nothing.
+/// Whether an ingest of that source ends with its fault, and writes nothing.
 fn fails_to_read<H: Threads + Sync>(
     rt: &H,
     alloc: Global,

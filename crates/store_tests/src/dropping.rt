@@ -9,7 +9,8 @@ use std::alloc::Global;
 use std::test::Fail;
 use store_core::{Store, StoreFault};
 
-// The helpers of these tests return `None` if a test cannot be set up, as when memory runs out.
+// The helpers return `None` if a test cannot be set up, or something goes wrong before what they
+// return. Each assertion wants `Some`.
 
 /// The chunks of 200 zeros under the small parameters.
 const ZEROS: [&[u8]; 4] = [&[0; 64], &[0; 64], &[0; 64], &[0; 8]];

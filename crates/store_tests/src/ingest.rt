@@ -16,7 +16,8 @@ use std::test::Fail;
 use std::thread::Threads;
 use store_core::{Store, StoreFault, init};
 
-// The helpers of these tests return `None` if a test cannot be set up, as when memory runs out.
+// The helpers return `None` if a test cannot be set up, or something goes wrong before what they
+// return. Each assertion wants `Some`.
 
 const HOW: How = How {
     workers: DEFAULT_WORKERS,
@@ -247,7 +248,7 @@ fn takes_in_zeros<H: Threads + Sync>(
             &Sha256Namer,
             name,
             (session, 4, fresh),
-        )? && shelf.file(File::Container(0, 0)).len() == 80,
+        )? && container_is(shelf, &[&[0; 64], &[0; 8]]),
     )
 }
 

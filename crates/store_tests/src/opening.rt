@@ -6,7 +6,8 @@ use std::alloc::Global;
 use std::test::Fail;
 use store_core::{Store, StoreFault, init, settings_of};
 
-// The helpers of these tests return `None` if a test cannot be set up, as when memory runs out.
+// The helpers return `None` if a test cannot be set up, or something goes wrong before what they
+// return. Each assertion wants `Some`.
 
 /// The parameters under which every window of zeros is a match.
 pub(crate) fn small_params() -> Option<Params> {

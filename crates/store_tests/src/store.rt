@@ -5,14 +5,15 @@ ghost use Rattle.store_core.specs.Recipes.{IsInOrder};
 ghost use Rattle.store_core.specs.StoreStates.{chunks_of_store};
 
 use crate::opening::{name_of, shelf_with, small_params};
-use chunk_names::{Namer, Sha256Namer};
+use chunk_names::{LengthNamer, Namer, Sha256Namer};
 use edge_traits::{EdgeFault, File, MemShelf, MemSink, Shelf, ShelfFail};
 use sd_base::{Damage, MAX_CHUNK_LEN, NewChunk};
 use std::alloc::Global;
 use std::test::Fail;
 use store_core::{Store, StoreFault, init};
 
-// The helpers of these tests return `None` if a test cannot be set up, as when memory runs out.
+// The helpers return `None` if a test cannot be set up, or something goes wrong before what they
+// return. Each assertion wants `Some`.
 
 /// The header of container 0.
 const HEADER: &[u8] = b"SSCP\0\0\0\0";
@@ -561,4 +562,32 @@ fn next_call(alloc: Global, call: u32) -> Option<Option<EdgeFault>> {
 fn taking_in_a_session_of_two_chunks_takes_11_calls(rt: HostRuntime) -> Result<(), Fail> {
     assert!(rt; next_call(rt.alloc(), 24) == Some(Some(EdgeFault::Failed)));
     Ok(())
+}
+
+/// The number of a chunk that is offered to a store whose names are lengths.
+fn number_by_length(
+    store: &mut Store<LengthNamer>,
+    shelf: &mut MemShelf,
+    chunk: &[u8],
+) -> Option<u32> {
+    if chunk.is_empty() || chunk.len() > MAX_CHUNK_LEN as usize || !store.is_sound() {
+        return None;
+    }
+    store.offer(shelf, chunk, &LengthNamer.name(chunk)).ok()
+}
+
+/// The numbers of two chunks of one name that are offered in turn, twice each.
+fn numbers_by_length(alloc: Global) -> Option<[u32; 4]> {
+    let mut shelf = made(alloc, &[])?;
+    let mut store = Store::open(alloc, &mut shelf, LengthNamer).ok()?;
+    let mut numbers = [0; 4];
+    for (number, chunk) in numbers.iter_mut().zip([A, C, A, C]) {
+        *number = number_by_length(&mut store, &mut shelf, chunk)?;
+    }
+    Some(numbers)
+}
+
+#[test]
+fn offered_chunks_of_one_name_are_told_apart_by_their_bytes(rt: HostRuntime) {
+    assert!(rt; numbers_by_length(rt.alloc()) == Some([0, 1, 0, 1]));
 }
