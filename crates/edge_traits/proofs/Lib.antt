@@ -5,3 +5,5 @@ mod Streams
 mod EntryLemmas
 -- The path of a container. For `write_path`.
 mod Paths
+-- Faults that are passed on from call to call. For `read_all`.
+mod Refusals

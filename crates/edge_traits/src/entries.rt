@@ -78,25 +78,6 @@ pub(crate) fn cut(
     Ok(())
 }
 
-/// Makes a file loose, and changes no bytes.
-pub(crate) fn mark_loose(
-    alloc: Global,
-    entries: &mut Vec<Entry>,
-    file: File,
-) -> Result<(), OutOfMemory>
-    ensures bytes { OnOk result
-        (bytes_of_file entries.new.items file ≡ bytes_of_file entries.old.items file) }
-    ensures loose { OnOk result (is_loose_file entries.new.items file ≡ true) }
-    ensures others { OnOk result (ChangesEntry file entries.old.items entries.new.items) }
-    ensures refused { OnErr result (SameEntries entries.old.items entries.new.items) }
-    ensures needs_no_memory { OnErr result (bytes_of_file entries.old.items file ≡ []) }
-{
-    let index = add_if_absent(alloc, entries, file)?;
-    let entry = &mut entries[index];
-    entry.is_loose = true;
-    Ok(())
-}
-
 /// Makes these the bytes of a file, which is then not loose.
 pub(crate) fn set_bytes(
     alloc: Global,

@@ -1,5 +1,5 @@
 //! A shelf in memory, which fails at planned calls.
-ghost use Rattle.std.specs.Prelude.{◌≡◌, ◌≢◌, ◌≤◌, ◌++◌, ℕ, [], length, take, drop, true, false, Some, IfOk, IfSome, OnOk, OnErr, IsErrOf, IsNone, if◌then◌else◌, ◌==◌};
+ghost use Rattle.std.specs.Prelude.{◌≡◌, ◌≢◌, ◌≤◌, ◌++◌, ℕ, [], length, take, drop, true, false, Some, IfOk, IfSome, OnOk, OnErr, IsErrOf, IfNone, IsNone, if◌then◌else◌, ◌==◌};
 ghost use Rattle.sd_base.specs.declared.file.File.{File};
 ghost use Rattle.edge_traits.specs.Entries.{SameEntries, ChangesEntry};
 
@@ -124,10 +124,7 @@ impl Shelf for MemShelf {
         ensures counted { IsCounted result self.old self.new }
     {
         let kept = self.plan.kept();
-        let piece = match kept {
-            Some(kept) => &bytes[..bytes.len().min(kept as usize)],
-            None => bytes,
-        };
+        let piece = kept_piece(bytes, kept);
         let done = entries::append(self.alloc, &mut self.entries, file, piece);
         self.plan.count_result(kept, done)
     }
@@ -149,11 +146,8 @@ impl Shelf for MemShelf {
         ensures counted { IsCounted result self.old self.new }
     {
         let kept = self.plan.kept();
-        let done = if kept == Some(0) {
-            entries::mark_loose(self.alloc, &mut self.entries, file)
-        } else {
-            entries::cut(self.alloc, &mut self.entries, file, length as usize)
-        };
+        let size = kept_size(entries::bytes_of(&self.entries, file), length, kept);
+        let done = entries::cut(self.alloc, &mut self.entries, file, size);
         self.plan.count_result(kept, done)
     }
 
@@ -169,4 +163,27 @@ impl Shelf for MemShelf {
         entries::flush(&mut self.entries, file);
         Ok(())
     }
+}
+
+/// What an append appends: the whole piece, or its first `kept` bytes if it is to fail.
+fn kept_piece(bytes: &[u8], kept: Option<u32>) -> &[u8]
+    ensures whole { IfNone kept (result.now ≡ bytes.now) }
+    ensures front { IfSome kept (λ kept. result.now ≡ take kept bytes.now) }
+{
+    match kept {
+        Some(kept) => &bytes[..bytes.len().min(kept as usize)],
+        None => bytes,
+    }
+}
+
+/// The size to which a file is cut: its own if the cut is to fail and to keep nothing.
+fn kept_size(bytes: &[u8], length: u64, kept: Option<u32>) -> usize
+    ensures whole { IfNone kept (result ≡ length) }
+    ensures front { IfSome kept (λ kept. take result bytes.now
+        ≡ (if kept == 0 then bytes.now else take length bytes.now)) }
+{
+    if kept == Some(0) {
+        return bytes.len();
+    }
+    length as usize
 }

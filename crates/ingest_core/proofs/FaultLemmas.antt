@@ -1,9 +1,11 @@
 -- Faults that are passed on from call to call.
-use Rattle.std.proofs.Common.{ℕ, ◌∙◌, arith, ◌≡◌, Err, ap, inl, inr, subst, sym}
+use Rattle.std.proofs.Common.{ℕ, ◌∙◌, arith, ◌≡◌, Err, ap, inl, inr, refl, subst, sym}
 use Rattle.std.specs.Prelude.{IfErr, IsErrAnd, MatchResult, Ok, OnErr, Result}
 use Rattle.edge_traits.specs.Faults.{Rose}
 use Rattle.store_core.specs.Shelves.{CountsFaults}
-use Rattle.ingest_core.specs.Faults.{Fails, IsStoreFailure}
+use Rattle.edge_traits.specs.declared.source_reader.ReadFault.{ReadFault}
+use Rattle.edge_traits.specs.declared.source_reader.ReadFault.TheVariants as read
+use Rattle.ingest_core.specs.Faults.{Fails, IsOfReading, IsStoreFailure, ingest_fault_of}
 use Rattle.ingest_core.specs.declared.fault.IngestFault.{IngestFault}
 use Rattle.ingest_core.specs.declared.fault.IngestFault.TheVariants.{InputTooLong, SourceFault, Store}
 use Rattle.store_core.specs.Commits.{OnlyFails}
@@ -89,3 +91,19 @@ counts-on first then faults faultless before mid after one two = record {
   rose : Rose (faults mid) (faults after) → Rose (faults before) (faults after)
   rose (inl more) = let a = one.never_falls in inl (omega (arith, a, more))
   rose (inr full) = inr full
+
+-- what the faults of reading mean to an ingest
+pub reading-is : (fault : ReadFault) → IsOfReading (ingest_fault_of fault)
+reading-is read.SourceFault = tt
+reading-is read.InputTooLong = tt
+reading-is read.OutOfMemory = tt
+
+pub too-long-is : (fault : ReadFault) → ingest_fault_of fault ≡ InputTooLong → fault ≡ read.InputTooLong
+too-long-is read.SourceFault is = absurd cc
+too-long-is read.InputTooLong is = refl
+too-long-is read.OutOfMemory is = absurd cc
+
+pub source-fault-is : (fault : ReadFault) → ingest_fault_of fault ≡ SourceFault → fault ≡ read.SourceFault
+source-fault-is read.SourceFault is = refl
+source-fault-is read.InputTooLong is = absurd cc
+source-fault-is read.OutOfMemory is = absurd cc

@@ -1,7 +1,7 @@
 -- The first chunks of an input were offered to a store or repeat earlier ones: what is known of the
 -- store and its files.
-use Rattle.std.proofs.Common.{◌≡◌, ℕ, ◌<◌, ◌≤◌, true, List, [], ◌∷◌, ◌++◌, Some, None, IfSome, OnErr, length, refl, ap, sym, subst, ◌∙◌, inl, inr, false, arith, map, slice_index_or, slice_range, append-nil, length-append}
-use Rattle.std.proofs.lemmas.List.{append_assoc, get_or-map, get_or_append_left, length-map, map-append}
+use Rattle.std.proofs.Common.{◌≡◌, ℕ, ◌+◌, ◌<◌, ◌≤◌, true, drop, List, [], ◌∷◌, ◌++◌, Some, None, IfSome, OnErr, length, refl, ap, sym, subst, ◌∙◌, inl, inr, false, arith, map, slice_index_or, slice_range, append-nil, length-append}
+use Rattle.std.proofs.lemmas.List.{append_assoc, drop_more, get_or-map, get_or_append_left, length-map, map-append}
 use Rattle.std.proofs.lemmas.List.Sums.{passes_at_first}
 use Rattle.std.proofs.lemmas.Slice.Eq.{bytes_eq-Decides}
 use Rattle.std.proofs.Math.Seq.{get_or-append_seam}
@@ -55,6 +55,14 @@ pub record IsPart (name_of : List ℕ → List ℕ) (input : List ℕ) (chunks :
   pub head : content after Head ≡ content before Head
   pub stands : (state : State) → IfSome before (λ files. StandsFor name_of first files state [] →
       IfSome after (λ then. StandsWith name_of files now then state done recipe))
+
+-- the cuts that are left begin with the next one
+pub part-here : {name_of : List ℕ → List ℕ} {input : List ℕ} {chunks : List (List ℕ)} {start : ℕ} {recipe : List ℕ}
+    {first now : StoreState} {before after : Told} (cuts : List ℕ) (k : ℕ) → k < length cuts →
+    IsPart name_of input chunks start (drop k cuts) recipe first now before after →
+    IsPart name_of input chunks start (slice_index_or cuts k 0 ∷ drop (k + 1) cuts) recipe first now before after
+part-here {name_of} {input} {chunks} {start} {recipe} {first} {now} {before} {after} cuts k inside part =
+    subst (λ (cs : List ℕ). IsPart name_of input chunks start cs recipe first now before after) (drop_more cuts k 0 inside) part
 
 -- the same of an equal recipe, store and shelf
 pub part-same : (name_of : List ℕ → List ℕ) (input : List ℕ) (chunks : List (List ℕ)) (start : ℕ) (left recipe : List ℕ)

@@ -1,4 +1,4 @@
-use Rattle.std.proofs.Common.{◌≡◌, rules, ◌++◌, ◌∷◌, ◌∙◌, Global, Vec, ℕ, ◌+◌, ◌<◌, List, [], ap, drop, length, refl, sym, subst, arith}
+use Rattle.std.proofs.Common.{◌≡◌, inr, rules, ◌++◌, ◌∷◌, ◌∙◌, Global, Vec, ℕ, ◌+◌, ◌<◌, List, [], ap, drop, length, refl, sym, subst, arith}
 use Rattle.std.proofs.lemmas.List.{drop_all, drop_more, get_or_read}
 use Rattle.std.specs.Prelude.{IfSome, OnErr, Result, slice_index_or}
 use Rattle.sd_base.specs.Cutting.{chunks_of}
@@ -7,9 +7,11 @@ use Rattle.sd_base.specs.Distinct.{first_index}
 use Rattle.store_core.specs.Shelves.{CountsFaults}
 use Rattle.store_core.specs.StoreStates.{StandsFor}
 use Rattle.store_core.specs.declared.fault.StoreFault.{StoreFault}
+use Rattle.store_core.specs.declared.fault.StoreFault.TheVariants.{OutOfMemory}
 use Rattle.ingest_core.specs.Offering.{AreRefused, OnlyRefuses}
 use Rattle.ingest_core.proofs.FaultLemmas.{passed-is, memory-fails}
-use Rattle.ingest_core.proofs.PartLemmas.{IsPart, offer-refuses, part-all, part-at, part-next, part-none, part-refused, part-repeat, part-same, part-stopped}
+use Rattle.ingest_core.proofs.PartLemmas.{IsPart, offer-refuses, part-all, part-at, part-here, part-next, part-none, part-refused, part-repeat, part-same, part-stopped}
+use Rattle.store_core.proofs.StoreLemmas.{if_told}
 use Rattle.ingest_core.proofs.offering.offer_all.Goals as goal
 use Rattle.ingest_core.proofs.offering.offer_all.Goals.{then-leader-place, else-leader-place+in_ok-number}
 
@@ -26,6 +28,33 @@ loop-cut-init g c =
           (part-none g.N.Namer.name_of store.opened.head.params input c.args.cuts.now store files refl c.requires.valid
           c.requires.cuts c.requires.none c.requires.sound);
     }
+
+pub returns-in_err-recipe-clause-offered : goal.returns-in_err-recipe-clause-offered
+returns-in_err-recipe-clause-offered g c = rw (passed-is OutOfMemory c.from_residual.result c.from_residual.ensures.1) tt
+
+pub returns-in_err-recipe-clause-refused : goal.returns-in_err-recipe-clause-refused
+returns-in_err-recipe-clause-refused g c =
+    rw (passed-is OutOfMemory c.from_residual.result c.from_residual.ensures.1) (inr (inr (inr refl)))
+
+pub returns-in_err-recipe-clause-head : goal.returns-in_err-recipe-clause-head
+returns-in_err-recipe-clause-head g c = rw (passed-is OutOfMemory c.from_residual.result c.from_residual.ensures.1) tt
+
+pub returns-in_err-recipe-clause-stands : goal.returns-in_err-recipe-clause-stands
+returns-in_err-recipe-clause-stands g c = λ state. if_told (g.F.Shelf.files c.args.shelf.now) (λ files stands.
+    rw (passed-is OutOfMemory c.from_residual.result c.from_residual.ensures.1) tt)
+
+pub returns-in_err-recipe-clause-stands_refused : goal.returns-in_err-recipe-clause-stands_refused
+returns-in_err-recipe-clause-stands_refused g c = λ state.
+    let name_of = g.N.Namer.name_of in
+    let first = c.args.store.now in
+    let input = c.args.input.now in
+    let cuts = c.args.cuts.now in
+    let chunks = chunks_of first.opened.head.params input in
+    let told = g.F.Shelf.files c.args.shelf.now in
+    let result = c.from_residual.result in
+    part-stopped name_of input chunks 0 cuts [] first first told told
+    (part-none name_of first.opened.head.params input cuts first told refl c.requires.valid c.requires.cuts c.requires.none c.requires.sound)
+    chunks (Vec ℕ Global) result (memory-fails result c.from_residual.ensures.1) state
 
 pub returns-in_err-number-clause-refused : goal.returns-in_err-number-clause-refused
 returns-in_err-number-clause-refused g c =
@@ -50,8 +79,7 @@ returns-in_err-number-clause-stands_refused g c = λ state.
     let left = drop (k + 1) c.args.cuts.now in
     let start = c.loop-cut.start in
     let recipe = c.loop-cut.recipe.items in
-    let part = subst (λ (cs : List ℕ). IsPart name_of input chunks start cs recipe first c.loop-cut.store before mid)
-    (drop_more c.args.cuts.now k 0 (omega (arith, c.loop-cut-test.true))) c.loop-cut.invariant.part in
+    let part = part-here c.args.cuts.now k (omega (arith, c.loop-cut-test.true)) c.loop-cut.invariant.part in
     subst (λ (q : Result (Vec ℕ Global) StoreFault). IfSome before (λ files. StandsFor name_of first files state [] →
     OnErr q (AreRefused name_of state chunks after q)))
     (sym (passed-is fault c.from_residual-in_err-number.result c.from_residual-in_err-number.ensures.1))
@@ -72,11 +100,62 @@ bounds-leaders-place g c =
     let left = drop (k + 1) c.args.cuts.now in
     let start = c.loop-cut.start in
     let recipe = c.loop-cut.recipe.items in
-    let part = subst (λ (cs : List ℕ). IsPart name_of input chunks start cs recipe first c.loop-cut.store before mid)
-    (drop_more c.args.cuts.now k 0 (omega (arith, c.loop-cut-test.true))) c.loop-cut.invariant.part in
+    let part = part-here c.args.cuts.now k (omega (arith, c.loop-cut-test.true)) c.loop-cut.invariant.part in
     let below = (part-at name_of input chunks start cut left recipe first c.loop-cut.store before mid part (first_index chunks) 0
     c.args.leaders.now c.requires.leaders).0 in
     omega (arith, below, c.len-place.ensures, c.loop-cut.recipe.ok)
+
+pub returns-in_err-number-clause-offered : goal.returns-in_err-number-clause-offered
+returns-in_err-number-clause-offered g c =
+    rw (passed-is c.in_err-number.field-0.0 c.from_residual-in_err-number.result c.from_residual-in_err-number.ensures.1) tt
+
+pub returns-in_err-number-clause-head : goal.returns-in_err-number-clause-head
+returns-in_err-number-clause-head g c =
+    rw (passed-is c.in_err-number.field-0.0 c.from_residual-in_err-number.result c.from_residual-in_err-number.ensures.1) tt
+
+pub returns-in_err-number-clause-stands : goal.returns-in_err-number-clause-stands
+returns-in_err-number-clause-stands g c = λ state. if_told (g.F.Shelf.files c.args.shelf.now) (λ files stands.
+    rw (passed-is c.in_err-number.field-0.0 c.from_residual-in_err-number.result c.from_residual-in_err-number.ensures.1) tt)
+
+pub slice_bounds-chunk-count : goal.slice_bounds-chunk-count
+slice_bounds-chunk-count g c =
+    let part = part-here c.args.cuts.now c.loop-cut.cut-index (omega (arith, c.loop-cut-test.true)) c.loop-cut.invariant.part in
+    omega (arith, part.rise.0)
+
+pub slice_bounds-chunk-start : goal.slice_bounds-chunk-start
+slice_bounds-chunk-start g c =
+    let part = part-here c.args.cuts.now c.loop-cut.cut-index (omega (arith, c.loop-cut-test.true)) c.loop-cut.invariant.part in
+    omega (arith, part.rise.0, part.rise.1)
+
+pub slice_bounds-chunk-end : goal.slice_bounds-chunk-end
+slice_bounds-chunk-end g c =
+    let part = part-here c.args.cuts.now c.loop-cut.cut-index (omega (arith, c.loop-cut-test.true)) c.loop-cut.invariant.part in
+    part.rise.1
+
+pub bounds-names-place : goal.bounds-names-place
+bounds-names-place g c =
+    let cuts = c.args.cuts.now in
+    let k = c.loop-cut.cut-index in
+    let input = c.args.input.now in
+    let first = c.args.store.now in
+    let name_of = g.N.Namer.name_of in
+    let part = part-here cuts k (omega (arith, c.loop-cut-test.true)) c.loop-cut.invariant.part in
+    let below = (part-at name_of input (chunks_of first.opened.head.params input) c.loop-cut.start (slice_index_or cuts k 0)
+    (drop (k + 1) cuts) c.loop-cut.recipe.items first c.loop-cut.store (g.F.Shelf.files c.args.shelf.now)
+    (g.F.Shelf.files c.loop-cut.shelf) part name_of [] c.args.names.now c.requires.names).0 in
+    omega (arith, below, c.len-place.ensures, c.loop-cut.recipe.ok)
+
+pub returns-in_err-push-clause-offered : goal.returns-in_err-push-clause-offered
+returns-in_err-push-clause-offered g c =
+    rw (passed-is OutOfMemory c.from_residual-in_err-push.result c.from_residual-in_err-push.ensures.1) tt
+
+pub returns-in_err-push-clause-head : goal.returns-in_err-push-clause-head
+returns-in_err-push-clause-head g c =
+    rw (passed-is OutOfMemory c.from_residual-in_err-push.result c.from_residual-in_err-push.ensures.1) tt
+
+pub returns-in_err-push-clause-stands : goal.returns-in_err-push-clause-stands
+returns-in_err-push-clause-stands g c = λ state. if_told (g.F.Shelf.files c.args.shelf.now) (λ files stands.
+    rw (passed-is OutOfMemory c.from_residual-in_err-push.result c.from_residual-in_err-push.ensures.1) tt)
 
 pub loop-cut-preserved : goal.loop-cut-preserved
 loop-cut-preserved g c =
@@ -91,8 +170,7 @@ loop-cut-preserved g c =
     let left = drop (k + 1) c.args.cuts.now in
     let start = c.loop-cut.start in
     let recipe = c.loop-cut.recipe.items in
-    let part = subst (λ (cs : List ℕ). IsPart name_of input chunks start cs recipe first c.loop-cut.store before mid)
-    (drop_more c.args.cuts.now k 0 (omega (arith, c.loop-cut-test.true))) c.loop-cut.invariant.part in
+    let part = part-here c.args.cuts.now k (omega (arith, c.loop-cut-test.true)) c.loop-cut.invariant.part in
     let place : c.len-place.result ≡ length recipe = omega (arith, c.len-place.ensures, c.loop-cut.recipe.ok) in
     let leader = slice_index_or c.args.leaders.now c.len-place.result 0 in
     let after = g.F.Shelf.files c.if-leader-place.shelf in
@@ -124,6 +202,20 @@ loop-cut-preserved g c =
           }
     ]
 
+pub returns-clause-offered : goal.returns-clause-offered
+returns-clause-offered g c =
+    let first = c.args.store.now in
+    let none = drop_all c.loop-cut.cut-index c.args.cuts.now (omega (arith, c.loop-cut-test.false)) in
+    (part-all g.N.Namer.name_of c.args.input.now (chunks_of first.opened.head.params c.args.input.now) c.loop-cut.start
+    (drop c.loop-cut.cut-index c.args.cuts.now) c.loop-cut.recipe.items first c.loop-cut.store (g.F.Shelf.files c.args.shelf.now)
+    (g.F.Shelf.files c.loop-cut.shelf) none c.loop-cut.invariant.part).1
+
+pub returns-clause-head : goal.returns-clause-head
+returns-clause-head g c = c.loop-cut.invariant.part.head
+
+pub returns-clause-stands_refused : goal.returns-clause-stands_refused
+returns-clause-stands_refused g c = λ state. if_told (g.F.Shelf.files c.args.shelf.now) (λ files stands. tt)
+
 pub returns-clause-stands : goal.returns-clause-stands
 returns-clause-stands g c =
     let first = c.args.store.now in
@@ -145,8 +237,7 @@ returns-in_err-push-clause-stands_refused g c = λ state.
     let left = drop (k + 1) c.args.cuts.now in
     let start = c.loop-cut.start in
     let recipe = c.loop-cut.recipe.items in
-    let part = subst (λ (cs : List ℕ). IsPart name_of input chunks start cs recipe first c.loop-cut.store before mid)
-    (drop_more c.args.cuts.now k 0 (omega (arith, c.loop-cut-test.true))) c.loop-cut.invariant.part in
+    let part = part-here c.args.cuts.now k (omega (arith, c.loop-cut-test.true)) c.loop-cut.invariant.part in
     let place : c.len-place.result ≡ length recipe = omega (arith, c.len-place.ensures, c.loop-cut.recipe.ok) in
     let leader = slice_index_or c.args.leaders.now c.len-place.result 0 in
     let after = g.F.Shelf.files c.if-leader-place.shelf in
