@@ -5,12 +5,13 @@ use Rattle.edge_traits.specs.Faults.{Rose}
 use Rattle.store_core.specs.Shelves.{CountsFaults}
 use Rattle.edge_traits.specs.declared.source_reader.ReadFault.{ReadFault}
 use Rattle.edge_traits.specs.declared.source_reader.ReadFault.TheVariants as read
-use Rattle.ingest_core.specs.Faults.{Fails, IsOfReading, IsStoreFailure, ingest_fault_of}
+use Rattle.ingest_core.specs.Faults.{Fails, IsOfChunks, IsOfReading, IsStoreFailure, ingest_fault_of}
+use Rattle.ingest_core.specs.Offering.{OnlyRefuses}
 use Rattle.ingest_core.specs.declared.fault.IngestFault.{IngestFault}
 use Rattle.ingest_core.specs.declared.fault.IngestFault.TheVariants.{InputTooLong, SourceFault, Store}
 use Rattle.store_core.specs.Commits.{OnlyFails}
 use Rattle.store_core.specs.declared.fault.StoreFault.{StoreFault}
-use Rattle.store_core.specs.declared.fault.StoreFault.TheVariants.{OutOfMemory}
+use Rattle.store_core.specs.declared.fault.StoreFault.TheVariants.{OutOfMemory, ShelfFault, TooManyPlaces}
 
 -- the error of a result, or this one if it has none
 error-in : {E : Type 0} → E → {T : Type 0} → Result T E → E
@@ -75,6 +76,51 @@ only_fails fault (inr memory) = subst (λ f. Fails (Store f) × IsStoreFailure (
 pub memory-fails : {T : Type 0} (r : Result T StoreFault) → IsErrAnd r (λ fault. fault ≡ OutOfMemory) → OnErr r (OnlyFails r)
 memory-fails (Ok x) is = tt
 memory-fails {T} (Err fault) is = inr (err-of T is)
+
+-- a value is no error
+pub ok-not : {T E : Type 0} {x : T} {e : E} → ◌≡◌ {A = Result T E} (Ok x) (Err e) → ⊥
+ok-not is = cc
+
+-- running out of memory is no other fault
+pub memory-not-places : Store OutOfMemory ≡ Store TooManyPlaces → ⊥
+memory-not-places is = cc
+
+pub memory-not-shelf : Store OutOfMemory ≡ Store ShelfFault → ⊥
+memory-not-shelf is = cc
+
+-- a store that refuses chunks refuses them to an ingest, and not for want of places
+pub offers-of-chunks : {T : Type 0} (fault : StoreFault) → OnlyRefuses (let r : Result T StoreFault = Err fault in r) →
+    IsOfChunks (Store fault) × (fault ≡ TooManyPlaces → ⊥)
+offers-of-chunks fault (inl damaged) =
+    subst (λ f. IsOfChunks (Store f) × (f ≡ TooManyPlaces → ⊥)) (sym (err-is damaged.1)) (damaged.2, λ is. cc)
+offers-of-chunks fault (inr (inl many)) =
+    subst (λ f. IsOfChunks (Store f) × (f ≡ TooManyPlaces → ⊥)) (sym (err-is many)) (tt, λ is. cc)
+offers-of-chunks fault (inr (inr (inl shelf))) =
+    subst (λ f. IsOfChunks (Store f) × (f ≡ TooManyPlaces → ⊥)) (sym (err-is shelf)) (tt, λ is. cc)
+offers-of-chunks fault (inr (inr (inr memory))) =
+    subst (λ f. IsOfChunks (Store f) × (f ≡ TooManyPlaces → ⊥)) (sym (err-is memory)) (tt, λ is. cc)
+
+-- no fault is counted if nothing was called
+pub counts-none : {F : Type 0} (fails : Type 0) (faults : F → ℕ) (faultless : F → Type 0) (same : F) → (fails → ⊥) →
+    CountsFaults fails faults faultless same same
+counts-none fails faults faultless same never = record {
+  failed = λ is. absurd (never is);
+  never_falls = omega arith;
+  faultless_serves = λ still is. never is;
+  faultless_counts_none = λ still. refl;
+  stays_faultless = λ still. still;
+}
+
+-- a run counts the faults of its call
+pub counts-as : {F : Type 0} {call run : Type 0} {faults : F → ℕ} {faultless : F → Type 0} {before after : F} →
+    (run → call) → CountsFaults call faults faultless before after → CountsFaults run faults faultless before after
+counts-as only counts = record {
+  failed = λ is. counts.failed (only is);
+  never_falls = counts.never_falls;
+  faultless_serves = λ still is. counts.faultless_serves still (only is);
+  faultless_counts_none = counts.faultless_counts_none;
+  stays_faultless = counts.stays_faultless;
+}
 
 -- faults are counted over two calls
 pub counts-on : {F : Type 0} (first then : Type 0) (faults : F → ℕ) (faultless : F → Type 0) (before mid after : F) →

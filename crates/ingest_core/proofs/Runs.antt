@@ -1,5 +1,5 @@
 -- The parts of an ingest, put together.
-use Rattle.std.proofs.Common.{◌≡◌, ℕ, ◌+◌, ◌≤◌, ◌<◌, List, [], Option, Some, None, Err, IfSome, length, refl, ap, sym, subst, ◌∙◌, inl, inr}
+use Rattle.std.proofs.Common.{◌≡◌, ℕ, ◌+◌, ◌≤◌, ◌<◌, List, [], Option, Some, None, Err, IfSome, length, refl, ap, sym, subst, ◌∙◌, inl, inr, arith}
 use Rattle.std.specs.Prelude.{IsErrAnd, OnErr, ◌⊎◌, Bool, IfErr, Ok, Result, drop, option_map}
 use Rattle.edge_traits.specs.Source.{IsAtEnd, LosesAtMost}
 use Rattle.edge_traits.specs.Shelf.{SameFiles, SameLoose}
@@ -176,6 +176,14 @@ only-places (Store store.ShelfFault) is early = absurd early
 only-places (Store store.OutOfMemory) is early = absurd early
 only-places _ is early = absurd is
 
+pub as-it-was : {F : Type 0} (r : Ends) (files : F → Told) (loose : F → File → Bool) (before after : F) →
+    SameFiles (files before) (files after) → SameLoose (loose before) (loose after) → LeavesShelf r files loose before after
+as-it-was (Ok summary) files loose before after same same_loose = record { same_files = tt; same_loose = tt }
+as-it-was (Err fault) files loose before after same same_loose = record {
+  same_files = λ early. same;
+  same_loose = λ early. same_loose;
+}
+
 pub taking-leaves : {F : Type 0} (r : Ends) (files : F → Told) (loose : F → File → Bool) (before mid after : F) →
     SameFiles (files before) (files mid) → SameLoose (loose before) (loose mid) → IfErr r IsOfChunks →
     (r ≡ Err (Store store.TooManyPlaces) → SameFiles (files mid) (files after) × SameLoose (loose mid) (loose after)) →
@@ -278,6 +286,38 @@ taking-reads (Err fault) left before after is at_end fits most = record {
   too_long = λ same. absurd (subst IsOfChunks (err-is same) is);
   taken = λ same. absurd (subst IsOfChunks (err-is same) is);
 }
+
+-- a fault of opening comes before reading
+opening-early : (fault : IngestFault) → IsOfOpenTo fault → (IsAfterReading fault → ⊥) × (fault ≡ InputTooLong → ⊥)
+opening-early (Store store.NoStore) is = (λ late. late, λ same. cc)
+opening-early (Store (store.Damaged d)) is = (λ late. late, λ same. cc)
+opening-early (Store store.NameTaken) is = (λ late. late, λ same. cc)
+opening-early (Store store.TooManySessions) is = (λ late. late, λ same. cc)
+opening-early (Store store.ShelfFault) is = (λ late. late, λ same. cc)
+opening-early (Store store.OutOfMemory) is = (λ late. late, λ same. cc)
+opening-early (Store store.StoreThere) is = absurd is
+opening-early (Store store.NoSession) is = absurd is
+opening-early (Store store.TooManyPlaces) is = absurd is
+opening-early (Store store.TooManyChunks) is = absurd is
+opening-early (Store store.SinkFault) is = absurd is
+opening-early SourceFault is = absurd is
+opening-early InputTooLong is = absurd is
+
+pub opening-reads : {R : Type 0} (fault : IngestFault) (left : R → Option (List ℕ)) (same : R) → IsOfOpenTo fault →
+    ReadsSource (ends fault) left same same
+opening-reads fault left same is = record {
+  whole = tt;
+  read_first = λ late. absurd ((opening-early fault is).0 late);
+  fits = tt;
+  fits_first = λ late. absurd ((opening-early fault is).0 late);
+  untouched = λ early. refl;
+  taken_at_most = none_lost (left same);
+  too_long = λ long. absurd ((opening-early fault is).1 (err-is long));
+  taken = λ long. absurd ((opening-early fault is).1 (err-is long));
+} where
+  none_lost : (told : Option (List ℕ)) → LosesAtMost (MAX_INPUT + 1) told told
+  none_lost None = (0, omega arith, refl)
+  none_lost (Some held) = (0, omega arith, refl)
 
 -- a fault of reading comes after the store was opened, and before all was read
 reading-late : (fault : IngestFault) → IsOfReading fault → IsAfterReading fault → ⊥

@@ -1,5 +1,5 @@
 use Rattle.std.proofs.Common.{◌≡◌, inr, rules, ◌++◌, ◌∷◌, ◌∙◌, Global, Vec, ℕ, ◌+◌, ◌<◌, List, [], ap, drop, length, refl, sym, subst, arith}
-use Rattle.std.proofs.lemmas.List.{drop_all, drop_more, get_or_read}
+use Rattle.std.proofs.lemmas.List.{drop_all, get_or_read}
 use Rattle.std.specs.Prelude.{IfSome, OnErr, Result, slice_index_or}
 use Rattle.sd_base.specs.Cutting.{chunks_of}
 use Rattle.sd_base.specs.declared.file.File.TheVariants.{Head}

@@ -1,5 +1,5 @@
-use Rattle.std.proofs.Common.{◌≡◌, inr, refl, Err, rules}
-use Rattle.store_core.proofs.StoreLemmas.{same-told, told_map}
+use Rattle.std.proofs.Common.{◌≡◌, ◌∙◌, sym, inr, refl, Err, rules}
+use Rattle.store_core.proofs.StoreLemmas.{if_told, same-told, told_map}
 use Rattle.ingest_core.specs.Ingests.{IsClosedTo}
 use Rattle.ingest_core.specs.declared.fault.IngestFault.TheVariants.{Store}
 use Rattle.sd_base.specs.Opening.{OpenAs}
@@ -7,9 +7,40 @@ use Rattle.sd_base.specs.States.{IsLawful}
 use Rattle.sd_base.specs.Stores.{HoldState}
 use Rattle.store_core.specs.declared.fault.StoreFault.TheVariants.{NameTaken, TooManySessions}
 use Rattle.ingest_core.proofs.BookLemmas.{book-full, book-taken}
-use Rattle.ingest_core.proofs.FaultLemmas.{passed-match, on-error, passed-holds}
+use Rattle.ingest_core.proofs.FaultLemmas.{counts-as, err-is, err-of, passed-is, store-is, passed-match, on-error, passed-holds}
 use Rattle.ingest_core.proofs.OpeningLemmas.{IsBookRefusal, by-opened, by-opening, opens-opened, opens-refused, IsRefusalOf, closed-not, full-refused, if_held, opening-refused, reads-only, taken-refused}
 use Rattle.ingest_core.proofs.opening.open_to.Goals as goal
+
+pub returns-in_err-store-clause-open : goal.returns-in_err-store-clause-open
+returns-in_err-store-clause-open g c =
+    rw (passed-is (Store c.in_err-store.field-0.0) c.from_residual.result c.from_residual.ensures.1) tt
+
+pub returns-in_err-store-clause-fresh : goal.returns-in_err-store-clause-fresh
+returns-in_err-store-clause-fresh g c =
+    rw (passed-is (Store c.in_err-store.field-0.0) c.from_residual.result c.from_residual.ensures.1) tt
+
+pub returns-in_err-store-clause-opened : goal.returns-in_err-store-clause-opened
+returns-in_err-store-clause-opened g c =
+    rw (passed-is (Store c.in_err-store.field-0.0) c.from_residual.result c.from_residual.ensures.1) tt
+
+pub returns-in_err-store-clause-stands : goal.returns-in_err-store-clause-stands
+returns-in_err-store-clause-stands g c = λ state. if_told (g.F.Shelf.files c.args.shelf.now) (λ files lawful held.
+    rw (passed-is (Store c.in_err-store.field-0.0) c.from_residual.result c.from_residual.ensures.1) tt)
+
+pub returns-in_err-store-clause-closed : goal.returns-in_err-store-clause-closed
+returns-in_err-store-clause-closed g c = λ state. if_told (g.F.Shelf.files c.args.shelf.now) (λ files lawful held closed.
+    rw (passed-is (Store c.in_err-store.field-0.0) c.from_residual.result c.from_residual.ensures.1) tt)
+
+pub returns-in_err-store-clause-reads : goal.returns-in_err-store-clause-reads
+returns-in_err-store-clause-reads g c =
+    let fault = c.in_err-store.field-0.0 in
+    let reads = c.open.ensures.reads in
+    let gave = passed-is (Store fault) c.from_residual.result c.from_residual.ensures.1 in
+    record {
+      same_files = reads.same_files;
+      same_loose = reads.same_loose;
+      counts = counts-as (λ is. c.in_err-store.was ∙ err-of _ (store-is (err-is (sym gave ∙ is)))) reads.counts;
+    }
 
 pub returns-in_err-store-clause-stands_refused : goal.returns-in_err-store-clause-stands_refused
 returns-in_err-store-clause-stands_refused g c = λ state.

@@ -1,4 +1,4 @@
-use Rattle.std.proofs.Common.{◌∙◌, arith, ap, sym, Vec, Global, ℕ, rules}
+use Rattle.std.proofs.Common.{◌∙◌, arith, ap, sym, Vec, Global, ℕ}
 use Rattle.sd_base.specs.Cutting.{cuts_of}
 use Rattle.sd_base.specs.Params.{numbers_of}
 use Rattle.store_core.specs.declared.fault.StoreFault.TheVariants.{OutOfMemory}

@@ -1,14 +1,14 @@
-use Rattle.std.proofs.Common.{ℕ, List, [], IfSome, sym, subst, ◌∙◌}
+use Rattle.std.proofs.Common.{ℕ, List, [], IfSome, refl, sym, subst, ◌∙◌}
 use Rattle.store_core.specs.StoreStates.{StandsFor}
-use Rattle.store_core.proofs.StoreLemmas.{same-told, told_map}
+use Rattle.store_core.proofs.StoreLemmas.{if_told, same-told, told_map}
 use Rattle.ingest_core.specs.Ingests.{Ends, Ingests, IngestsInto, ReadsSource, RefusesWithCause}
 use Rattle.ingest_core.specs.ByBook.{IngestsByBook, IsBookClosedTo}
 use Rattle.ingest_core.proofs.BookLemmas.{book-open}
-use Rattle.ingest_core.proofs.FaultLemmas.{counts-on, at-match, passed-is, at-error, err-of}
+use Rattle.ingest_core.proofs.FaultLemmas.{counts-as, counts-on, at-match, passed-is, at-error, err-is, err-of}
 use Rattle.ingest_core.proofs.Inputs.{some_input}
 use Rattle.ingest_core.proofs.OpeningLemmas.{IsBookRefusal, IsRefusalOf}
-use Rattle.ingest_core.specs.Faults.{IsOfReading}
-use Rattle.ingest_core.proofs.Runs.{opened-sound, opened-book, opening-book, taking-reads, reading-causes, taking-causes, one-input, opening-causes, reading-into, reading-reads, refused-so, taking-into, taking-leaves}
+use Rattle.ingest_core.specs.Faults.{IsOfOpenTo, IsOfReading}
+use Rattle.ingest_core.proofs.Runs.{as-it-was, opening-reads, opened-sound, opened-book, opening-book, taking-reads, reading-causes, taking-causes, one-input, opening-causes, reading-into, reading-reads, refused-so, taking-into, taking-leaves}
 use Rattle.ingest_core.proofs.session.ingest.Goals as goal
 
 pub returns-in_err-store-clause-ingests : goal.returns-in_err-store-clause-ingests
@@ -32,6 +32,52 @@ returns-in_err-store-clause-ingests g c =
           (told_map told (λ files refused opens. at-match _ (IsBookRefusal opened name) c.open_to.result fault c.in_err-store.was
           (refused opens)) (c.open_to.ensures.by_book opened)),
     )
+
+pub returns-in_err-store-clause-early : goal.returns-in_err-store-clause-early
+returns-in_err-store-clause-early g c = λ state. if_told (g.F.Shelf.files c.args.shelf.now) (λ files lawful held closed. refl)
+
+pub returns-in_err-store-clause-unread : goal.returns-in_err-store-clause-unread
+returns-in_err-store-clause-unread g c = if_told (g.F.Shelf.files c.args.shelf.now) (λ files none. refl)
+
+pub returns-in_err-store-clause-unopened : goal.returns-in_err-store-clause-unopened
+returns-in_err-store-clause-unopened g c = if_told (g.F.Shelf.files c.args.shelf.now) (λ files none.
+    (c.open_to.ensures.reads.same_files, c.open_to.ensures.reads.same_loose))
+
+pub returns-in_err-store-clause-early_by_book : goal.returns-in_err-store-clause-early_by_book
+returns-in_err-store-clause-early_by_book g c = λ opened.
+    if_told (g.F.Shelf.files c.args.shelf.now) (λ files opens closed. refl)
+
+pub returns-in_err-store-clause-reads : goal.returns-in_err-store-clause-reads
+returns-in_err-store-clause-reads g c =
+    let fault = c.in_err-store.field-0.0 in
+    subst (λ (q : Ends). ReadsSource q g.R.Source.left c.args.source.now c.args.source.now)
+    (sym (passed-is fault c.from_residual.result c.from_residual.ensures.1))
+    (opening-reads fault g.R.Source.left c.args.source.now
+    (at-error IsOfOpenTo c.open_to.result fault c.in_err-store.was c.open_to.ensures.refused))
+
+pub returns-in_err-store-clause-leaves : goal.returns-in_err-store-clause-leaves
+returns-in_err-store-clause-leaves g c =
+    let reads = c.open_to.ensures.reads in
+    as-it-was c.from_residual.result g.F.Shelf.files g.F.Shelf.loose c.args.shelf.now c.open_to.new.shelf
+    reads.same_files reads.same_loose
+
+pub returns-in_err-store-clause-shelf_counts : goal.returns-in_err-store-clause-shelf_counts
+returns-in_err-store-clause-shelf_counts g c =
+    let fault = c.in_err-store.field-0.0 in
+    let gave = passed-is fault c.from_residual.result c.from_residual.ensures.1 in
+    counts-as (λ is. c.in_err-store.was ∙ err-of _ (err-is (sym gave ∙ is))) c.open_to.ensures.reads.counts
+
+pub returns-in_err-input-clause-leaves : goal.returns-in_err-input-clause-leaves
+returns-in_err-input-clause-leaves g c =
+    let reads = c.open_to.ensures.reads in
+    as-it-was c.from_residual-in_err-input.result g.F.Shelf.files g.F.Shelf.loose c.args.shelf.now c.open_to.new.shelf
+    reads.same_files reads.same_loose
+
+pub returns-in_err-input-clause-source_counts : goal.returns-in_err-input-clause-source_counts
+returns-in_err-input-clause-source_counts g c =
+    let fault = c.in_err-input.field-0.0 in
+    let gave = passed-is fault c.from_residual-in_err-input.result c.from_residual-in_err-input.ensures.1 in
+    counts-as (λ is. c.in_err-input.was ∙ err-of _ (err-is (sym gave ∙ is))) c.read_cut.ensures.counts
 
 pub returns-in_err-store-clause-causes : goal.returns-in_err-store-clause-causes
 returns-in_err-store-clause-causes g c =

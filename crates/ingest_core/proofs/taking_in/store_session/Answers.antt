@@ -6,7 +6,7 @@ use Rattle.sd_base.specs.Opening.{Opened}
 use Rattle.sd_base.specs.Parameters.{IsValid}
 use Rattle.sd_base.specs.declared.raw_params.RawParams.{RawParams}
 use Rattle.sd_base.specs.States.{IsCutting}
-use Rattle.ingest_core.proofs.FaultLemmas.{passed-is, only_fails}
+use Rattle.ingest_core.proofs.FaultLemmas.{counts-as, counts-none, counts-on, err-is, err-of, memory-not-places, memory-not-shelf, offers-of-chunks, ok-not, only_fails, passed-holds, passed-is, store-is}
 use Rattle.ingest_core.proofs.Refusals.{count-between}
 use Rattle.sd_base.specs.declared.file.File.TheVariants.{Head}
 use Rattle.sd_base.proofs.Covering.{concat-chunks_of}
@@ -21,9 +21,9 @@ use Rattle.store_core.specs.declared.fault.StoreFault.TheVariants.{OutOfMemory}
 use Rattle.store_core.proofs.StoreLemmas.{told_map}
 use Rattle.shard_plan.proofs.Chunks.{named_by_function}
 use Rattle.shard_plan.specs.Leaders.{leaders_of}
-use Rattle.ingest_core.specs.Faults.{Fails}
+use Rattle.ingest_core.specs.Faults.{Fails, IsOfChunks}
 use Rattle.ingest_core.specs.Ingests.{Ends, IngestsInto}
-use Rattle.ingest_core.specs.Offering.{AreRefused}
+use Rattle.ingest_core.specs.Offering.{AreRefused, OnlyRefuses}
 use Rattle.ingest_core.specs.declared.fault.IngestFault.TheVariants.{Store}
 use Rattle.ingest_core.proofs.TakingLemmas.{chunks-committed, fail-into, fails, few-offered, late-fails, mid-no_early, no-chunks, ok-into, unnamed}
 use Rattle.ingest_core.proofs.taking_in.store_session.Goals as goal
@@ -51,6 +51,83 @@ leaders_of_text-requires-clause-named g c = λ κs lives.
 pub offer_all-requires-clause-leaders : goal.offer_all-requires-clause-leaders
 offer_all-requires-clause-leaders g c = λ κs lives.
     c.deref-3.ensures.value ∙ c.in_ok-leaders.ensures.leaders ∙ ap (λ cs. leaders_of (chunks_between c.args.input.now 0 cs)) c.requires.cuts
+
+pub returns-in_err-names-clause-numbers : goal.returns-in_err-names-clause-numbers
+returns-in_err-names-clause-numbers g c = rw (passed-is (Store OutOfMemory) c.from_residual.result c.from_residual.ensures.1) tt
+
+pub returns-in_err-names-clause-refused : goal.returns-in_err-names-clause-refused
+returns-in_err-names-clause-refused g c =
+    passed-holds IsOfChunks c.from_residual.result (Store OutOfMemory) c.from_residual.ensures.1 tt
+
+pub returns-in_err-names-clause-places : goal.returns-in_err-names-clause-places
+returns-in_err-names-clause-places g c = λ is.
+    memory-not-places (err-is (sym (passed-is (Store OutOfMemory) c.from_residual.result c.from_residual.ensures.1) ∙ is))
+
+pub returns-in_err-names-clause-counts : goal.returns-in_err-names-clause-counts
+returns-in_err-names-clause-counts g c = counts-none _ _ _ _ (λ is.
+    memory-not-shelf (err-is (sym (passed-is (Store OutOfMemory) c.from_residual.result c.from_residual.ensures.1) ∙ is)))
+
+pub returns-in_err-leaders-clause-numbers : goal.returns-in_err-leaders-clause-numbers
+returns-in_err-leaders-clause-numbers g c =
+    rw (passed-is (Store OutOfMemory) c.from_residual-in_err-leaders.result c.from_residual-in_err-leaders.ensures.1) tt
+
+pub returns-in_err-leaders-clause-refused : goal.returns-in_err-leaders-clause-refused
+returns-in_err-leaders-clause-refused g c =
+    passed-holds IsOfChunks c.from_residual-in_err-leaders.result (Store OutOfMemory) c.from_residual-in_err-leaders.ensures.1 tt
+
+pub returns-in_err-leaders-clause-places : goal.returns-in_err-leaders-clause-places
+returns-in_err-leaders-clause-places g c = λ is.
+    let gave = passed-is (Store OutOfMemory) c.from_residual-in_err-leaders.result c.from_residual-in_err-leaders.ensures.1 in
+    memory-not-places (err-is (sym gave ∙ is))
+
+pub returns-in_err-leaders-clause-counts : goal.returns-in_err-leaders-clause-counts
+returns-in_err-leaders-clause-counts g c = counts-none _ _ _ _ (λ is.
+    let gave = passed-is (Store OutOfMemory) c.from_residual-in_err-leaders.result c.from_residual-in_err-leaders.ensures.1 in
+    memory-not-shelf (err-is (sym gave ∙ is)))
+
+pub returns-in_err-recipe-clause-numbers : goal.returns-in_err-recipe-clause-numbers
+returns-in_err-recipe-clause-numbers g c =
+    rw (passed-is (Store c.in_err-recipe.field-0.0) c.from_residual-in_err-recipe.result c.from_residual-in_err-recipe.ensures.1) tt
+
+pub returns-in_err-recipe-clause-refused : goal.returns-in_err-recipe-clause-refused
+returns-in_err-recipe-clause-refused g c =
+    let fault = c.in_err-recipe.field-0.0 in
+    let only = subst (λ (q : Result (Vec ℕ Global) StoreFault). OnErr q (OnlyRefuses q)) c.in_err-recipe.was c.offer_all.ensures.refused in
+    passed-holds IsOfChunks c.from_residual-in_err-recipe.result (Store fault) c.from_residual-in_err-recipe.ensures.1
+    (offers-of-chunks fault only).0
+
+pub returns-in_err-recipe-clause-places : goal.returns-in_err-recipe-clause-places
+returns-in_err-recipe-clause-places g c = λ is.
+    let fault = c.in_err-recipe.field-0.0 in
+    let only = subst (λ (q : Result (Vec ℕ Global) StoreFault). OnErr q (OnlyRefuses q)) c.in_err-recipe.was c.offer_all.ensures.refused in
+    let gave = passed-is (Store fault) c.from_residual-in_err-recipe.result c.from_residual-in_err-recipe.ensures.1 in
+    (offers-of-chunks fault only).1 (store-is (err-is (sym gave ∙ is)))
+
+pub returns-in_err-recipe-clause-counts : goal.returns-in_err-recipe-clause-counts
+returns-in_err-recipe-clause-counts g c =
+    let fault = c.in_err-recipe.field-0.0 in
+    let gave = passed-is (Store fault) c.from_residual-in_err-recipe.result c.from_residual-in_err-recipe.ensures.1 in
+    counts-as (λ is. c.in_err-recipe.was ∙ err-of _ (store-is (err-is (sym gave ∙ is)))) c.offer_all.ensures.counts
+
+pub returns-in_err-session-clause-numbers : goal.returns-in_err-session-clause-numbers
+returns-in_err-session-clause-numbers g c =
+    rw (passed-is (Store c.in_err-session.field-0.0) c.from_residual-in_err-session.result c.from_residual-in_err-session.ensures.1) tt
+
+pub returns-in_err-session-clause-counts : goal.returns-in_err-session-clause-counts
+returns-in_err-session-clause-counts g c =
+    let fault = c.in_err-session.field-0.0 in
+    let gave = passed-is (Store fault) c.from_residual-in_err-session.result c.from_residual-in_err-session.ensures.1 in
+    counts-as (λ is. c.in_err-session.was ∙ err-of _ (store-is (err-is (sym gave ∙ is))))
+    (counts-on _ _ g.F.Shelf.faults g.F.Shelf.faultless c.args.shelf.now c.offer_all.new.shelf c.commit.new.shelf
+    c.offer_all.ensures.counts c.commit.ensures.counts)
+
+pub returns-clause-places : goal.returns-clause-places
+returns-clause-places g c = λ is. ok-not is
+
+pub returns-clause-counts : goal.returns-clause-counts
+returns-clause-counts g c = counts-as (λ is. absurd (ok-not is))
+    (counts-on _ _ g.F.Shelf.faults g.F.Shelf.faultless c.args.shelf.now c.offer_all.new.shelf c.commit.new.shelf
+    c.offer_all.ensures.counts c.commit.ensures.counts)
 
 pub returns-in_err-names-clause-ingests : goal.returns-in_err-names-clause-ingests
 returns-in_err-names-clause-ingests g c =
