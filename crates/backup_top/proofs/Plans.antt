@@ -1,16 +1,21 @@
 -- A run of `plan`: its text is made from the input alone, and no file is touched.
-use Rattle.std.proofs.Common.{◌≡◌, inl, inr, ℕ, ◌+◌, ◌<◌, ltb, Bool, List, [], ◌∷◌, ◌++◌, length, refl, ap, sym, subst, ◌∙◌, arith}
-use Rattle.std.specs.Prelude.{Err, IfErr, MatchOption, None, Ok, Option, Some, String, string_bytes}
+use Rattle.std.proofs.Common.{◌≡◌, inl, inr, ℕ, ◌+◌, ◌<◌, ◌≤◌, drop, ltb, Bool, List, [], ◌∷◌, ◌++◌, length, refl, ap, sym, subst, ◌∙◌, arith}
+use Rattle.std.specs.Prelude.{Err, IfErr, IfSome, option_map, MatchOption, None, Ok, Option, Result, Some, String, string_bytes}
 use Rattle.std.specs.declared.alloc.Global.{Global}
 use Rattle.std.proofs.lemmas.Bool.{cases_Bool, lt-ltb}
 use Rattle.sha2.specs.Sha256.{sha256}
-use Rattle.edge_traits.specs.Source.{LosesAtMost}
+use Rattle.edge_traits.specs.Faults.{Rose}
+use Rattle.edge_traits.specs.declared.source_reader.ReadFault.{ReadFault}
+use Rattle.edge_traits.specs.declared.source_reader.ReadFault.TheVariants as read
+use Rattle.edge_traits.specs.Source.{IsAtEnd, LosesAtMost}
 use Rattle.sd_base.specs.OnePass.{Pass, pass_of_plan, pass_of_valid_plan, refusal, success}
 use Rattle.sd_base.specs.Parameters.{bad_parameter}
 use Rattle.sd_base.specs.States.{State}
 use Rattle.sd_base.specs.Stores.{Hold}
 use Rattle.sd_base.specs.Texts.{plan_line, plan_lines}
+use Rattle.ingest_core.specs.Ingests.{IsInputOf}
 use Rattle.ingest_core.specs.Plans.{lines_of}
+use Rattle.store_core.specs.Shelves.{CountsFaults}
 use Rattle.backup_top.specs.Lines.{printed_lines}
 use Rattle.sd_base.specs.declared.file.File.{File}
 use Rattle.sd_base.specs.declared.limits.TheConstants.{MAX_INPUT}
@@ -23,7 +28,8 @@ use Rattle.sd_base.specs.declared.outcome.Outcome.TheVariants.{Done, BadWords, B
 use Rattle.backup_top.specs.Outcomes.{IsAfterReading, IsEarly, IsOneOf, LeavesStore}
 use Rattle.backup_top.specs.Run.{IsRun, MayReturn, ReadsInput}
 use Rattle.backup_top.specs.Steps.{IsOfPlan, IsUnmade, Made, MakesPlan, MakesStoreOf, MakesText, MakesTextOf, MayEnd, WritesMade}
-use Rattle.backup_top.proofs.Runs.{carried_out, counted_as, err-of, held-told, in-err, no_records, of_write, on_ok, some_input, stay_clean, uncalled}
+use Rattle.ingest_core.proofs.Inputs.{long_input, some_input}
+use Rattle.backup_top.proofs.Runs.{carried_out, counted_as, err-of, held-told, in-err, no_records, of_write, on_ok, stay_clean, uncalled}
 
 -- ---- the text
 
@@ -57,6 +63,106 @@ refuses_long params state input long = (
   sym (ap (λ (p : Pass). p.outcome) (too_long params state input long)),
   λ early. absurd (not_early params state input early),
 )
+
+-- ---- the reading of an input
+
+-- a run counts the faults of the source that it read
+pub counts_of_reading : {R run call : Type 0} {faults : R → ℕ} {faultless : R → Type 0} {before after : R} → (run → call) →
+    (call → Rose (faults before) (faults after)) → faults before ≤ faults after → (faultless before → call → ⊥) →
+    (faultless before → faults after ≡ faults before) → (faultless before → faultless after) →
+    CountsFaults run faults faultless before after
+counts_of_reading only failed never_falls serves none stays = record {
+  failed = λ is. failed (only is);
+  never_falls = never_falls;
+  faultless_serves = λ still is. serves still (only is);
+  faultless_counts_none = none;
+  stays_faultless = stays;
+}
+
+pub ok-not : {T E : Type 0} {x : T} {e : E} → ◌≡◌ {A = Result T E} (Ok x) (Err e) → ⊥
+ok-not is = cc
+
+pub memory-not-failed : {T : Type 0} (r : Result T ReadFault) → r ≡ Err read.OutOfMemory → r ≡ Err read.SourceFault → ⊥
+memory-not-failed r gave is = cc
+
+pub memory-not-long : {T : Type 0} (r : Result T ReadFault) → r ≡ Err read.OutOfMemory → r ≡ Err read.InputTooLong → ⊥
+memory-not-long r gave is = cc
+
+-- ---- the outcome of a plan with valid parameters, by how its text was made
+
+module _ {R : Type 0} (params : RawParams) (left : R → Option (List ℕ)) (faults : R → ℕ) (faultless : R → Type 0)
+    (before after : R) (call : Type 0) (counts : CountsFaults call faults faultless before after)
+    (most : LosesAtMost (MAX_INPUT + 1) (left before) (left after)) where
+  pub plan_made : (text : String Global) → ((input : List ℕ) × IsInputOf (left before) input
+      × ((state : Option State) → pass_of_valid_plan params state input ≡ success state (string_bytes text))) →
+      IsAtEnd (left after) → IfSome (left before) (λ input. length input ≤ MAX_INPUT) →
+      MakesPlan None (pass_of_valid_plan params) (Ok text) left faults faultless before after
+  plan_made text made at_end fits = record {
+    on_some_input = (made.0, made.1, λ state. makes_text _ state text (made.2 state));
+    only = tt;
+    flawed = λ kind clash. absurd cc;
+    sound = λ _. tt;
+    counts = counted_as _ _ _ _ _ _ (λ clash. absurd cc) counts;
+    untouched = tt;
+    whole_input = at_end;
+    taken_at_most = most;
+    taken = λ clash. absurd cc;
+    too_long = λ clash. absurd cc;
+    fits = fits;
+  }
+
+  pub plan_unread : call → MakesPlan None (pass_of_valid_plan params) (Err SourceFault) left faults faultless before after
+  plan_unread failed =
+      let some = some_input (left before) in
+      record {
+        on_some_input = (some.0, some.1, λ state. (tt, λ early. absurd (not_early params state some.0 early)));
+        only = tt;
+        flawed = λ kind clash. absurd cc;
+        sound = λ _. inr (inr (inl refl));
+        counts = counted_as _ _ _ _ _ _ (λ same. failed) counts;
+        untouched = λ early. absurd early;
+        whole_input = tt;
+        taken_at_most = most;
+        taken = λ clash. absurd cc;
+        too_long = λ clash. absurd cc;
+        fits = tt;
+      }
+
+  pub plan_too_long : IfSome (left before) (λ input. MAX_INPUT < length input) →
+      left after ≡ option_map (λ input. drop (MAX_INPUT + 1) input) (left before) →
+      MakesPlan None (pass_of_valid_plan params) (Err InputTooLong) left faults faultless before after
+  plan_too_long too_long taken =
+      let long = long_input (left before) too_long in
+      record {
+        on_some_input = (long.0, long.1, λ state. refuses_long params state long.0 long.2);
+        only = tt;
+        flawed = λ kind clash. absurd cc;
+        sound = λ _. inr (inl refl);
+        counts = counted_as _ _ _ _ _ _ (λ clash. absurd cc) counts;
+        untouched = λ early. absurd early;
+        whole_input = tt;
+        taken_at_most = most;
+        taken = λ same. taken;
+        too_long = λ same. too_long;
+        fits = tt;
+      }
+
+  pub plan_no_memory : MakesPlan None (pass_of_valid_plan params) (Err OutOfMemory) left faults faultless before after
+  plan_no_memory =
+      let some = some_input (left before) in
+      record {
+        on_some_input = (some.0, some.1, λ state. (tt, λ early. absurd (not_early params state some.0 early)));
+        only = tt;
+        flawed = λ kind clash. absurd cc;
+        sound = λ _. inl refl;
+        counts = counted_as _ _ _ _ _ _ (λ clash. absurd cc) counts;
+        untouched = λ early. absurd early;
+        whole_input = tt;
+        taken_at_most = most;
+        taken = λ clash. absurd cc;
+        too_long = λ clash. absurd cc;
+        fits = tt;
+      }
 
 -- the numbers of valid parameters are those that the command has
 pub pass_for_numbers : (P : Option BadParameter → (Option State → List ℕ → Pass) → Type 0) (raw valid : RawParams)

@@ -1,11 +1,10 @@
 -- Runs, put together from what the parts of a command do.
-use Rattle.std.proofs.Common.{◌≡◌, inl, inr, ℕ, ◌+◌, ◌<◌, Bool, List, [], ◌∷◌, length, replicate, refl, ap, sym, subst, ◌∙◌, append-nil, arith}
-use Rattle.std.specs.Prelude.{⊤, Err, IfSome, None, Ok, OnOk, Option, Result, Some, String, string_bytes}
+use Rattle.std.proofs.Common.{◌≡◌, inl, inr, ℕ, Bool, List, ◌∷◌, refl, ap, sym, subst, ◌∙◌, append-nil, arith}
+use Rattle.std.specs.Prelude.{⊤, Err, IfSome, IsErrAnd, None, Ok, OnOk, Option, Result, Some, String, string_bytes}
 use Rattle.std.specs.declared.alloc.Global.{Global}
-use Rattle.std.proofs.lemmas.List.{length-replicate}
 use Rattle.sha2.specs.Sha256.{sha256}
 use Rattle.edge_traits.specs.Sink.{AppendsPrefix}
-use Rattle.ingest_core.specs.Ingests.{IsInputOf}
+use Rattle.ingest_core.proofs.Inputs.{some_input}
 use Rattle.sd_base.specs.OnePass.{Pass, pass_of, refusal}
 use Rattle.sd_base.specs.Opening.{OpenAs, Opened}
 use Rattle.sd_base.specs.Rows.{reference_rows_of_book, rows_of_book}
@@ -14,7 +13,6 @@ use Rattle.sd_base.specs.States.{State}
 use Rattle.sd_base.specs.Stores.{AreClean, Hold}
 use Rattle.sd_base.specs.declared.damage.Damage.{Damage}
 use Rattle.sd_base.specs.declared.file.File.{File}
-use Rattle.sd_base.specs.declared.limits.TheConstants.{MAX_INPUT}
 use Rattle.sd_base.specs.declared.words.BadWords.{BadWords as Refusal}
 use Rattle.sd_base.specs.declared.words.Command.{Command}
 use Rattle.sd_base.specs.declared.words.Command.TheVariants.{Quiet as quiet, Ingest}
@@ -27,20 +25,16 @@ use Rattle.backup_top.specs.Outcomes.{EndsAs, IsBeforeReading, IsBroken, IsBroke
 use Rattle.backup_top.specs.Run.{AreHeld, IsCarriedOut, IsRun, LeavesSink, LeavesSource, StayClean}
 use Rattle.backup_top.specs.Steps.{IsOfWrite, IsUnmade, Made, MakesByRecords, MakesText, WritesMade}
 
--- there is always an input: any bytes may be that of a source that is not observable
-pub some_input : (left : Option (List ℕ)) → (input : List ℕ) × IsInputOf left input
-some_input None = ([], tt)
-some_input (Some held) = (held, refl)
+-- a call that passes an error on returns it
+pub passed-is : {T E : Type 0} (error : E) (r : Result T E) → IsErrAnd r (λ e. e ≡ error) → r ≡ Err error
+passed-is error (Ok x) same = absurd same
+passed-is {T} {E} error (Err e) same = ap (λ (x : E). let q : Result T E = Err x in q) same
 
--- there are bytes of each length
-bytes_of_length : (n : ℕ) → (bytes : List ℕ) × (length bytes ≡ n)
-bytes_of_length n = (replicate n 0, length-replicate n 0)
-
--- the same of an input that is too long
-pub long_input : (left : Option (List ℕ)) → IfSome left (λ held. MAX_INPUT < length held)
-    → (input : List ℕ) × IsInputOf left input × (MAX_INPUT < length input)
-long_input None _ = let longer = bytes_of_length (MAX_INPUT + 1) in (longer.0, tt, omega (arith, longer.1))
-long_input (Some held) long = (held, refl, long)
+-- it returned an error only if the call did
+pub passed-of : {S T E : Type 0} (error : E) (call : Result S E) (r : Result T E) (other : E) → call ≡ Err error →
+    IsErrAnd r (λ e. e ≡ error) → r ≡ Err other → call ≡ Err other
+passed-of error call (Ok x) other was same is = absurd same
+passed-of error call (Err e) other was same is = cc
 
 -- nothing is a prefix of each text
 pub prefix_of_nothing : (before : Option (List ℕ)) (text : List ℕ) → AppendsPrefix before before text

@@ -1,7 +1,7 @@
 -- In reading order. The folders beside this file have the answers of single functions.
 
 -- inputs of sources that may be observable
-mod Inputs
+pub mod Inputs
 -- faults that are passed on
 mod FaultLemmas
 -- a recipe in order, and one entry more
