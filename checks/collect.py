@@ -25,12 +25,18 @@ SUBJECTS = {
     "calls": 13,
     "disturbances": 6,
     "documents": 7,
+    "manual": 18,
+    "recipes": 13,
     "demo": 2,
 }
 OTHERS = {
     "collect",
+    "examples",
     "folders",
+    "full_stores",
     "harness",
+    "manual_checks",
+    "manual_page",
     "pipes",
     "reference",
     "reference_store",

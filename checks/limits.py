@@ -5,34 +5,20 @@ import tempfile
 from pathlib import Path
 
 from folders import FOLDER, Twin, expect_committed, expect_files
+from full_stores import containers_of_zeros, empty_sessions, record_of_zeros, write_book
 from harness import expect, expect_refusal, expect_same, file_of, position_of, run, test
 from reference import DEFAULTS, LONGEST_INPUT
 from reference_store import (
     MAX_CHUNKS,
-    MAX_CONTAINER,
     MAX_PLACES,
     MAX_SESSIONS,
     Drop,
     Ingest,
-    body_of_ingest,
-    container_header,
     files_in,
-    sealed,
-    settings_of,
     spelling_of,
     twice,
     u32,
-    write_files,
 )
-
-ZERO = bytes.fromhex("6e340b9cffb37a989ca544e6bb780a2c78901d3fb33738768511a30617afa01d")
-HEAD = settings_of(DEFAULTS) + b"S"
-
-
-def write_book(records, containers):
-    """Makes a store whose book has these records."""
-    files = {"head": HEAD, "seal.0": b"S" * len(records), "book.0": b"".join(records)}
-    write_files(FOLDER, files | containers)
 
 
 def ingest_line(name, length, places, fresh):
@@ -85,10 +71,6 @@ def input_that_never_ends_leaves_the_store_as_it_was():
     expect_committed()
 
 
-def empty_sessions(count):
-    return [spelling_of(Ingest(b"s%d" % number, 0, [], [])) for number in range(count)]
-
-
 @test
 def sessions_up_to_their_number_are_taken_in():
     write_book(empty_sessions(MAX_SESSIONS - 1), {})
@@ -107,26 +89,6 @@ def dropped_sessions_count_as_sessions():
     expect(run([FOLDER, "list"]))
     expect_untouched_by(["ingest", "s1"], b"abc", "too many sessions")
     expect_untouched_by(["restore", "s1"], b"abc", "no such session")
-
-
-def zero_chunks(count):
-    """The new chunks of a record: the zero byte, so many times."""
-    return (u32(1) + ZERO) * count
-
-
-def record_of_zeros(name, chunks, places, recipe):
-    """The record of a session of so many places, each the zero byte."""
-    body = body_of_ingest(name, places, chunks, zero_chunks(chunks), places, recipe)
-    return sealed(b"I", body)
-
-
-def containers_of_zeros(count):
-    """The containers of so many chunks, each the zero byte."""
-    in_one, containers = MAX_CONTAINER - 8, {}
-    for number, start in enumerate(range(0, count, in_one)):
-        content = container_header(number) + bytes(min(in_one, count - start))
-        containers[f"container.0.{number}"] = content
-    return containers
 
 
 def expect_refused_after_reading(source, note):
