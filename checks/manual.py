@@ -1,4 +1,4 @@
-"""The manual page is rendered without a warning and is true of the program; wrong ones are not."""
+"""The manual page renders without a warning and is true of the program; wrong pages are noticed."""
 
 from functools import partial
 
