@@ -1,6 +1,6 @@
 -- Runs, put together from what the parts of a command do.
 use Rattle.std.proofs.Common.{◌≡◌, inl, inr, ℕ, Bool, List, ◌∷◌, refl, ap, sym, subst, ◌∙◌, append-nil, arith}
-use Rattle.std.specs.Prelude.{⊤, Err, IfSome, IsErrAnd, None, Ok, OnOk, Option, Result, Some, String, string_bytes}
+use Rattle.std.specs.Prelude.{⊤, Err, IfSome, IsErr, IsErrAnd, None, Ok, OnOk, Option, Result, Some, String, string_bytes}
 use Rattle.std.specs.declared.alloc.Global.{Global}
 use Rattle.sha2.specs.Sha256.{sha256}
 use Rattle.edge_traits.specs.Sink.{AppendsPrefix}
@@ -29,6 +29,10 @@ use Rattle.backup_top.specs.Steps.{IsOfWrite, IsUnmade, Made, MakesByRecords, Ma
 pub passed-is : {T E : Type 0} (error : E) (r : Result T E) → IsErrAnd r (λ e. e ≡ error) → r ≡ Err error
 passed-is error (Ok x) same = absurd same
 passed-is {T} {E} error (Err e) same = ap (λ (x : E). let q : Result T E = Err x in q) same
+
+pub fails-with : {T E : Type 0} (r : Result T E) → IsErr r → (error : E) × (r ≡ Err error)
+fails-with (Ok x) fails = absurd cc
+fails-with (Err e) fails = (e, refl)
 
 -- it returned an error only if the call did
 pub passed-of : {S T E : Type 0} (error : E) (call : Result S E) (r : Result T E) (other : E) → call ≡ Err error →
