@@ -39,3 +39,5 @@ pub mod Passes
 pub mod StateExamples
 -- a worked verdict of opening for each kind of damage
 pub mod OpeningExamples
+-- a worked flaw of each kind
+pub mod FlawExamples

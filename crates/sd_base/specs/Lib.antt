@@ -32,6 +32,10 @@ pub mod StateBooks
 pub mod References
 -- the verdict of opening a store
 pub mod Opening
+-- the first number or place at which something does not hold
+pub mod Firsts
+-- what an audit finds wrong in the files of a store
+pub mod Flaws
 -- words of the form KEY=VALUE
 pub mod Keys
 -- the words of the command line and the command that they name
