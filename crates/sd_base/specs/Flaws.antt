@@ -3,7 +3,7 @@
 -- chunks out of the order in which they first occur, and sessions that are not cut by the
 -- parameters. All sessions of the book are looked at, dropped ones too. All rules here are this
 -- project's own.
-use Rattle.std.specs.Prelude.{◌≡◌, ◌≢◌, ◌⊎◌, ℕ, suc, ◌+◌, ◌<◌, List, [], length, map, take, slice_index_or, Option, Some, None}
+use Rattle.std.specs.Prelude.{◌≡◌, ◌≢◌, ◌⊎◌, ℕ, suc, ◌<◌, List, [], length, map, take, slice_index_or, Option, Some, None}
 use Rattle.std.specs.Int.{w64, from_be_bytes}
 use Rattle.std.specs.List.{Contains, concat}
 use Rattle.sd_base.specs.Books.{BookState, chunks_in}
