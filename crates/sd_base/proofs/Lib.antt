@@ -9,6 +9,10 @@ pub mod Rising
 pub mod Tails
 -- the candidates of the front of an input do not depend on what follows
 pub mod Fronts
+-- two properties have the same first failure
+pub mod Firsts
+-- chunks are the cutting of their bytes if and only if each follows the rule
+pub mod Cuttings
 -- the chunks join to the input and have the sizes that the parameters ask for
 pub mod Covering
 -- numbers are valid parameters if and only if none is refused

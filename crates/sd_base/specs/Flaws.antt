@@ -5,9 +5,9 @@
 -- project's own.
 use Rattle.std.specs.Prelude.{◌≡◌, ◌≢◌, ◌⊎◌, ℕ, suc, ◌<◌, List, [], length, map, take, slice_index_or, Option, Some, None}
 use Rattle.std.specs.Int.{w64, from_be_bytes}
-use Rattle.std.specs.List.{Contains, concat}
+use Rattle.std.specs.List.{Contains}
 use Rattle.sd_base.specs.Books.{BookState, chunks_in}
-use Rattle.sd_base.specs.Cutting.{chunks_of}
+use Rattle.sd_base.specs.Cuttings.{IsOfTheCutting}
 use Rattle.sd_base.specs.Distinct.{first_index}
 use Rattle.sd_base.specs.Firsts.{HoldsBelow, HoldsAtPlaces, IsFirstFailing, IsFirstFailingPlace}
 use Rattle.sd_base.specs.Opening.{Opened, chunk_lengths, needed_sizes}
@@ -85,9 +85,7 @@ chunks_of_session book chunks k = map (λ n. slice_index_or chunks n []) (recipe
 
 -- the chunk at the place is the one that the cutting of the session's bytes has there
 abbrev pub IsCutAt : RawParams → BookState → List (List ℕ) → ℕ → ℕ → Type 0
-IsCutAt params book chunks k place =
-    slice_index_or (chunks_of_session book chunks k) place []
-    ≡ slice_index_or (chunks_of params (concat (chunks_of_session book chunks k))) place []
+IsCutAt params book chunks k place = IsOfTheCutting params (chunks_of_session book chunks k) place
 
 module _ (name_of : List ℕ → List ℕ) (opened : Opened) (chunks : List (List ℕ)) where
   -- each chunk has its name

@@ -8,6 +8,10 @@ pub mod Params
 pub mod Polynomial
 -- where an input is cut
 pub mod Cutting
+-- the first number or place at which something does not hold
+pub mod Firsts
+-- when a list of chunks is the cutting of its bytes, chunk by chunk
+pub mod Cuttings
 -- how chunks are packed into containers
 pub mod Packing
 -- the names of sessions
@@ -32,8 +36,6 @@ pub mod StateBooks
 pub mod References
 -- the verdict of opening a store
 pub mod Opening
--- the first number or place at which something does not hold
-pub mod Firsts
 -- what an audit finds wrong in the files of a store
 pub mod Flaws
 -- words of the form KEY=VALUE
@@ -52,6 +54,8 @@ pub mod OnePass
 pub mod Laws
 -- what follows from the definitions of states
 pub mod StateLaws
+-- what follows from the definitions of cuttings
+pub mod CuttingLaws
 -- worked examples
 pub mod Examples
 -- worked examples of a store

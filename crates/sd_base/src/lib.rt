@@ -12,6 +12,7 @@
 //! those of `sha2` and `hex`.
 #![tactic(auto)]
 
+mod cutting_laws;
 mod damage;
 mod file;
 mod gate;
@@ -27,6 +28,7 @@ mod record;
 mod state_laws;
 mod words;
 
+pub use cutting_laws::{candidates_are_of_their_chunk, cuttings_are_by_chunks};
 pub use damage::Damage;
 pub use file::File;
 pub use gate::{Gate, OpenGate, Stage};
