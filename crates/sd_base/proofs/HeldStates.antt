@@ -266,7 +266,7 @@ sessions-book name_of state = followed-records name_of (stored_chunks state) sta
 pub chunks-placed : (state : State) → session_chunks (sessions_in state) ≡ placed_chunks state.events
 chunks-placed state = session_chunks-fold state.events []
 
-lengths-named : (name_of : List ℕ → List ℕ) (chunks : List (List ℕ)) → map (λ (c : NewChunk). c.length) (map (named name_of) chunks) ≡ map length chunks
+pub lengths-named : (name_of : List ℕ → List ℕ) (chunks : List (List ℕ)) → map (λ (c : NewChunk). c.length) (map (named name_of) chunks) ≡ map length chunks
 lengths-named name_of [] = refl
 lengths-named name_of (chunk ∷ chunks) = ap (λ ns. length chunk ∷ ns) (lengths-named name_of chunks)
 

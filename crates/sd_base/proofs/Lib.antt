@@ -9,6 +9,10 @@ pub mod Rising
 pub mod Tails
 -- the candidates of the front of an input do not depend on what follows
 pub mod Fronts
+-- files that hold a lawful state have no flaw
+pub mod Flawless
+-- recipes that name chunks in the order of first occurrence
+pub mod InOrder
 -- two properties have the same first failure
 pub mod Firsts
 -- chunks are the cutting of their bytes if and only if each follows the rule

@@ -54,6 +54,8 @@ pub mod OnePass
 pub mod Laws
 -- what follows from the definitions of states
 pub mod StateLaws
+-- what follows from the definitions of flaws
+pub mod FlawLaws
 -- what follows from the definitions of cuttings
 pub mod CuttingLaws
 -- worked examples
