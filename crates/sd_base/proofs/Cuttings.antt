@@ -166,6 +166,12 @@ module _ (params : RawParams) (window : WINDOW ≤ params.min) (ordered : params
       ∙ sym (cutting-cons c rest (All-head Filled c rest filled) (first-cut params c rest (holds 0 (omega arith))))
 
   module _ (chunks : List (List ℕ)) (filled : AreFilled chunks) where
+    -- chunks each of which is the one of the cutting are the cutting
+    pub cutting-by_places : HoldsBelow (length chunks) (IsOfTheCutting params chunks) → IsCutting params chunks
+    cutting-by_places holds =
+        cutting-by_rule chunks filled
+        ((below-same (length chunks) (FollowsTheRule params chunks) (IsOfTheCutting params chunks) (follows-of_cutting chunks filled)).1 holds)
+
     pub cutting_is_by_rule : IsCutting params chunks ↔ HoldsBelow (length chunks) (FollowsTheRule params chunks)
     cutting_is_by_rule = (
       λ cut.

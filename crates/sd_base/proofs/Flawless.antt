@@ -118,7 +118,7 @@ module _ (name_of : List ℕ → List ℕ) (files : File → List ℕ) (state : 
       sym (ap (λ (l : List NewChunk). (slice_index_or l i none).name) kept-chunks
       ∙ ap (λ (c : NewChunk). c.name) (get_or-map (named name_of) (stored_chunks state) i [] none within))
 
-  session-at : (k : ℕ) → k < length (sessions_in state) → chunks_of_session (book_of_state name_of state) (stored_chunks state) k ≡ own_chunks (sessions_in state) k
+  pub session-at : (k : ℕ) → k < length (sessions_in state) → chunks_of_session (book_of_state name_of state) (stored_chunks state) k ≡ own_chunks (sessions_in state) k
   session-at k within =
       let stored = stored_chunks state in
       let sessions = sessions_in state in
@@ -136,7 +136,7 @@ module _ (name_of : List ℕ → List ℕ) (files : File → List ℕ) (state : 
       let own : own_chunks sessions k ≡ (slice_index_or sessions k nothing).chunks = get_or-map (λ (s : StoredSession). s.chunks) sessions k nothing [] within in
       subst (IsCutting state.params) (sym own) (All-get_or (λ (s : StoredSession). IsCutting state.params s.chunks) sessions k nothing within lawful.cut)
 
-  sessions-many : length (book_of_state name_of state).sessions ≡ length (sessions_in state)
+  pub sessions-many : length (book_of_state name_of state).sessions ≡ length (sessions_in state)
   sessions-many = ap length (sessions-book name_of state) ∙ length-book name_of (stored_chunks state) [] (sessions_in state)
 
   pub held-flawless : IsLawful state → HoldState name_of files state → IsFlawOf name_of files (opened_of name_of state) None

@@ -9,6 +9,10 @@ pub mod Rising
 pub mod Tails
 -- the candidates of the front of an input do not depend on what follows
 pub mod Fronts
+-- files that open and have no flaw hold a lawful state
+pub mod FlawlessStates
+-- the ingests of a book, one after another
+pub mod BookEntries
 -- files that hold a lawful state have no flaw
 pub mod Flawless
 -- recipes that name chunks in the order of first occurrence
