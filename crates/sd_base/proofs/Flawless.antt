@@ -1,8 +1,14 @@
 -- Files that hold a lawful state have no flaw.
-use Rattle.std.proofs.Common.{◌≡◌, ◌≢◌, ℕ, zero, suc, ◌<◌, true, false, None, List, [], ◌∷◌, ◌++◌, length, map, take, drop, slice_index_or, refl, sym, ap, subst, ◌∙◌, append_assoc, arith}
+use Rattle.std.proofs.Common.{◌≡◌, ◌≢◌, ℕ, zero, suc, ◌+◌, ◌<◌, true, false, None, List, [], ◌∷◌, ◌++◌, length, map, take, drop, slice_index_or, refl, sym, ap, subst, ◌∙◌, append_assoc, arith}
 use Rattle.std.proofs.Math.ListN as lists
 use Rattle.std.proofs.lemmas.List.{append-nil, get_or-map, length-map}
 use Rattle.std.proofs.lemmas.List.Elements.{All-get_or}
+use Rattle.std.specs.List.{count_by}
+use Rattle.sd_base.specs.Packing.{packing}
+use Rattle.std.specs.Prelude.{Bool, cond, if◌then◌else◌}
+use Rattle.std.proofs.lemmas.List.Sums.{sum_by-cons}
+use Rattle.sd_base.specs.Audits.{counts_of_book, counts_of_state}
+use Rattle.sd_base.specs.Opening.{needed_sizes}
 use Rattle.sd_base.specs.Books.{BookState, chunks_in}
 use Rattle.sd_base.specs.Distinct.{AreDifferent, distinct, first_index, is_among}
 use Rattle.sd_base.specs.Firsts.{HoldsBelow}
@@ -10,13 +16,13 @@ use Rattle.sd_base.specs.FlawLaws.{opened_of}
 use Rattle.sd_base.specs.Flaws.{AreNamed, HaveChunks, IsFlawOf, IsNew, chunks_before, chunks_of_session, recipe_in_book}
 use Rattle.sd_base.specs.StateBooks.{book_of_state, book_session, book_sessions}
 use Rattle.sd_base.specs.StateLaws.{chunk_at}
-use Rattle.sd_base.specs.States.{IsCutting, IsLawful, State, StoredSession, placed_chunks, recipe_of, sessions_in, stored_chunks}
+use Rattle.sd_base.specs.States.{IsCutting, IsLawful, State, StoredSession, live_numbers, live_sessions, placed_chunks, recipe_of, sessions_in, stored_chunks}
 use Rattle.sd_base.specs.Stores.{HoldState, named}
 use Rattle.sd_base.specs.declared.file.File.{File}
 use Rattle.sd_base.specs.declared.record.NewChunk.{NewChunk}
 use Rattle.sd_base.specs.declared.record.Session.{Session}
 use Rattle.sd_base.proofs.Distinct.{distinct-different}
-use Rattle.sd_base.proofs.HeldStates.{chunks-placed, lengths-named, sessions-book}
+use Rattle.sd_base.proofs.HeldStates.{chunks-placed, lengths-named, sessions-book, sizes-book}
 use Rattle.sd_base.proofs.InOrder.{IsOrdered, among-at, ordered-walk, walk-numbers}
 use Rattle.sd_base.proofs.Recipes.{recipes_name_their_chunks}
 use Rattle.sd_base.proofs.StateBooks.{chunks-book, length-book, session_chunks}
@@ -158,3 +164,30 @@ module _ (name_of : List ℕ → List ℕ) (files : File → List ℕ) (state : 
               ap (λ (cs : List (List ℕ)). slice_index_or cs place []) cut;
         },
       )
+
+one-if : (live : Bool) (k : ℕ) (numbers : List ℕ) → cond live 1 0 + length numbers ≡ length (if live then k ∷ numbers else numbers)
+one-if true k numbers = omega arith
+one-if false k numbers = omega arith
+
+-- as many sessions of the book are live as of the state
+live-book : (name_of : List ℕ → List ℕ) (stored before : List (List ℕ)) (k : ℕ) (sessions : List StoredSession) →
+    count_by (λ (s : Session). s.live) (book_sessions name_of stored before sessions) ≡ length (live_numbers k sessions)
+live-book name_of stored before k [] = refl
+live-book name_of stored before k (s ∷ sessions) =
+    let rest = book_sessions name_of stored (before ++ s.chunks) sessions in
+    let later = live-book name_of stored (before ++ s.chunks) (k + 1) sessions in
+    sum_by-cons (λ (t : Session). cond t.live 1 0) (book_session name_of stored before s) rest
+    ∙ ap (λ (n : ℕ). cond s.live 1 0 + n) later
+    ∙ one-if s.live k (live_numbers (k + 1) sessions)
+
+pub counts-book : (name_of : List ℕ → List ℕ) (state : State) → counts_of_book (book_of_state name_of state) ≡ counts_of_state state
+counts-book name_of state =
+    let stored = stored_chunks state in
+    let live : count_by (λ (s : Session). s.live) (book_of_state name_of state).sessions ≡ length (live_sessions state) =
+    ap (count_by (λ (s : Session). s.live)) (sessions-book name_of state) ∙ live-book name_of stored [] 0 (sessions_in state) in
+    let chunks : length (chunks_in (book_of_state name_of state).sessions) ≡ length stored =
+    ap (λ (l : List NewChunk). length l) (kept-chunks name_of (λ file. []) state) ∙ length-map stored (named name_of) in
+    let containers : length (needed_sizes (book_of_state name_of state)) ≡ length (packing stored) =
+    ap (λ (l : List ℕ). length l) (sizes-book name_of state) ∙ length-map (packing stored) length in
+    let many = sessions-many name_of (λ file. []) state in
+    cc

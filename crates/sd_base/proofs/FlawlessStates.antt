@@ -339,7 +339,7 @@ module _ (name_of : List ℕ → List ℕ) (files : File → List ℕ) (head : H
 
 -- files that open and have no flaw hold a lawful state
 pub flawless-state : (name_of : List ℕ → List ℕ) (files : File → List ℕ) (opened : Opened) → OpenAs files opened → IsFlawOf name_of files opened None →
-    (state : State) × IsLawful state × HoldState name_of files state
+    (state : State) × IsLawful state × HoldState name_of files state × (opened ≡ opened_of name_of state)
 flawless-state name_of files opened opens none =
     let head = opened.head in
     let chunks = none.0 in
@@ -361,4 +361,5 @@ flawless-state name_of files opened opens none =
             (λ (cs : List (List ℕ)). (k : ℕ) → k < length (packing cs) → IsFrontOf (slice_index_or (packing cs) k []) (files (Container head.generation k)))
             (sym all.1) have.containers;
       },
+      e ∙ ap (λ (rs : List Record). record { head = head; book = book_after head.params.max rs }) (sym same),
     )

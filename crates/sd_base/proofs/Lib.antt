@@ -1,5 +1,5 @@
--- In reading order. `laws/`, `state_laws/` and `name/` have the answers of single functions, which
--- cite these.
+-- In reading order. `laws/`, `cutting_laws/`, `state_laws/`, `flaw_laws/` and `name/` have the
+-- answers of single functions, which cite these.
 
 -- what the next cut is, and how a list of cuts or chunks goes on from one of them
 pub mod Cutting
@@ -9,20 +9,12 @@ pub mod Rising
 pub mod Tails
 -- the candidates of the front of an input do not depend on what follows
 pub mod Fronts
--- files that open and have no flaw hold a lawful state
-pub mod FlawlessStates
--- the ingests of a book, one after another
-pub mod BookEntries
--- files that hold a lawful state have no flaw
-pub mod Flawless
--- recipes that name chunks in the order of first occurrence
-pub mod InOrder
+-- the chunks join to the input and have the sizes that the parameters ask for
+pub mod Covering
 -- two properties have the same first failure
 pub mod Firsts
 -- chunks are the cutting of their bytes if and only if each follows the rule
 pub mod Cuttings
--- the chunks join to the input and have the sizes that the parameters ask for
-pub mod Covering
 -- numbers are valid parameters if and only if none is refused
 pub mod Ranges
 -- bytes are a name if and only if they are not refused, and how a `Name` keeps them
@@ -43,6 +35,16 @@ pub mod Files
 pub mod StateBooks
 -- files that hold a lawful state open as its book
 pub mod HeldStates
+-- recipes that name chunks in the order of first occurrence
+pub mod InOrder
+-- files that hold a lawful state have no flaw
+pub mod Flawless
+-- the ingests of a book, one after another
+pub mod BookEntries
+-- files that open and have no flaw hold a lawful state
+pub mod FlawlessStates
+-- files that open have one first flaw, or none
+pub mod OneFlaw
 -- the reference counts of a state are those of its book
 pub mod References
 -- a run leads from a lawful state to a lawful state, and gives back what was taken in
@@ -51,5 +53,5 @@ pub mod Passes
 pub mod StateExamples
 -- a worked verdict of opening for each kind of damage
 pub mod OpeningExamples
--- a worked flaw of each kind
-pub mod FlawExamples
+-- worked texts of an audit, and a worked flaw of each kind
+pub mod AuditExamples

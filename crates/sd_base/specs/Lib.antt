@@ -38,6 +38,8 @@ pub mod References
 pub mod Opening
 -- what an audit finds wrong in the files of a store
 pub mod Flaws
+-- what an audit tells of a store without a flaw
+pub mod Audits
 -- words of the form KEY=VALUE
 pub mod Keys
 -- the words of the command line and the command that they name

@@ -15,6 +15,7 @@
 mod cutting_laws;
 mod damage;
 mod file;
+mod flaw_laws;
 mod gate;
 mod how;
 mod laws;
@@ -31,6 +32,10 @@ mod words;
 pub use cutting_laws::{candidates_are_of_their_chunk, cuttings_are_by_chunks};
 pub use damage::Damage;
 pub use file::File;
+pub use flaw_laws::{
+    counts_are_those_of_the_book, files_have_one_first_flaw,
+    flawless_files_are_those_of_lawful_states,
+};
 pub use gate::{Gate, OpenGate, Stage};
 pub use how::How;
 pub use laws::{

@@ -1,8 +1,11 @@
--- Worked examples of what an audit finds, one for each kind of flaw. Chunks are named by their first
--- byte, so that the examples are short.
+-- Worked examples of what an audit tells and of what it finds, one for each kind of flaw. Chunks are
+-- named by their first byte there, so that the examples are short.
 use Rattle.std.specs.Prelude.{◌≡◌, ℕ, ◌<◌, List, [], ◌∷◌, ◌++◌, length, map, replicate, slice_index_or, codes, Some}
 use Rattle.std.specs.Int.Count.{count_leading_zeros}
 use Rattle.std.proofs.Common.{inl, inr, zero, suc, refl, sym, ap, subst, ◌∙◌, append-nil, lit<, true, arith}
+use Rattle.std.specs.Fmt.{digits}
+use Rattle.sd_base.specs.Audits.{audit_text, counts_of_state}
+use Rattle.sd_base.specs.StoreExamples.{once_dropped, one_empty}
 use Rattle.sd_base.specs.Cutting.{chunks_of, next_cut, cuts_within}
 use Rattle.sd_base.specs.Examples.{small_params, session_of}
 use Rattle.sd_base.specs.Flaws.{HaveChunks, IsFlawOf, IsNamed, IsNew, IsInOrder, IsCutAt, places_and_end}
@@ -15,6 +18,18 @@ use Rattle.sd_base.specs.declared.damage.Damage.TheVariants as damage
 use Rattle.sd_base.specs.declared.file.File.{File}
 use Rattle.sd_base.specs.declared.file.File.TheVariants.{Head, Seal, Book, Container}
 use Rattle.sd_base.specs.declared.record.NewChunk.{NewChunk}
+
+-- two sessions of the same two chunks, of which the first was dropped
+pub text-audit_after_a_drop :
+    audit_text (counts_of_state once_dropped) ≡ codes "ok 1 live 2 ingested 2 chunks 1 containers" ++ 10 ∷ []
+unfolding digits
+text-audit_after_a_drop = refl
+
+-- an empty session has no chunk, and needs no container
+pub text-audit_of_an_empty_session :
+    audit_text (counts_of_state one_empty) ≡ codes "ok 1 live 1 ingested 0 chunks 0 containers" ++ 10 ∷ []
+unfolding digits
+text-audit_of_an_empty_session = refl
 
 abbrev first_byte : List ℕ → ℕ
 first_byte bytes = slice_index_or bytes 0 0
