@@ -43,6 +43,8 @@ pub mod Flawless
 pub mod BookEntries
 -- files that open and have no flaw hold a lawful state
 pub mod FlawlessStates
+-- containers that are long enough and have their marks have chunks
+pub mod MarkedContainers
 -- files that open have one first flaw, or none
 pub mod OneFlaw
 -- the reference counts of a state are those of its book
