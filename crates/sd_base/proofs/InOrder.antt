@@ -38,15 +38,15 @@ IsOrdered known entries total =
     (place : ℕ) → place < suc (length entries) → (n : ℕ) → n < slice_index_or entries place total →
     HasOccurred known (take place entries) n
 
-contains-later : (e n : ℕ) (entries : List ℕ) → Contains entries n → Contains (e ∷ entries) n
+pub contains-later : (e n : ℕ) (entries : List ℕ) → Contains entries n → Contains (e ∷ entries) n
 contains-later e n entries at = (suc at.0, omega (arith, at.1), at.2)
 
 -- what occurs in entries is their first, or occurs later
-contains-parts : (e n : ℕ) (entries : List ℕ) → Contains (e ∷ entries) n → (n ≡ e) ⊎ Contains entries n
+pub contains-parts : (e n : ℕ) (entries : List ℕ) → Contains (e ∷ entries) n → (n ≡ e) ⊎ Contains entries n
 contains-parts e n entries (zero, within, at) = inl (sym at)
 contains-parts e n entries (suc k, within, at) = inr (k, omega (arith, within), at)
 
-contains-none : (n : ℕ) → Contains [] n → ⊥
+pub contains-none : (n : ℕ) → Contains [] n → ⊥
 contains-none n at = absurd (omega (arith, at.1))
 
 pub ordered-walk : (known : ℕ) (entries : List ℕ) (total : ℕ) → IsWalk known entries total → IsOrdered known entries total

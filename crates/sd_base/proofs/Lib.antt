@@ -43,9 +43,13 @@ pub mod Flawless
 pub mod BookEntries
 -- files that open and have no flaw hold a lawful state
 pub mod FlawlessStates
+-- one chunk more of a packing
+pub mod Packing
 -- containers that are long enough and have their marks have chunks
 pub mod MarkedContainers
--- files that open have one first flaw, or none
+-- files that open have a first flaw, or none
+pub mod FoundFlaws
+-- the first flaw is one
 pub mod OneFlaw
 -- the reference counts of a state are those of its book
 pub mod References

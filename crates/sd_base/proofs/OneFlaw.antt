@@ -6,6 +6,7 @@ use Rattle.std.specs.Int.{w64, from_be_bytes}
 use Rattle.std.proofs.Math.Seq.{take-append_seam}
 use Rattle.std.proofs.lemmas.Bool.{cases_Bool, cases_lt}
 use Rattle.std.proofs.lemmas.List.{append_cancel_left, length-map}
+use Rattle.sd_base.proofs.Packing.{packed-fits, packed-opens}
 use Rattle.sd_base.specs.Distinct.{first_index}
 use Rattle.sd_base.specs.Firsts.{HoldsBelow, IsFirstFailing, IsFirstFailingPlace}
 use Rattle.sd_base.specs.Flaws.{AreFlawless, AreInOrder, AreNamed, AreNew, HasMark, HaveChunks, IsChunkFlaw, IsFlawAmong, IsFlawOf, IsMarkFlaw, IsOrderFlaw, IsTwinFlaw, kept_in_book}
@@ -42,8 +43,8 @@ packed-one files number a b (x ∷ xs) (y ∷ ys) size sizes first second =
     elim (cases_Bool (nat_le (length a + length x) MAX_CONTAINER)) [
       | inl fits ↦
           let fits_too = sym test ∙ fits in
-          let on : packed_on number a (x ∷ xs) ≡ packed_on number (a ++ x) xs = rw fits refl in
-          let on_too : packed_on number b (y ∷ ys) ≡ packed_on number (b ++ y) ys = rw fits_too refl in
+          let on = packed-fits number a x xs fits in
+          let on_too = packed-fits number b y ys fits_too in
           let longer : length (a ++ x) ≡ length (b ++ y) = let p = length-append a x in let q = length-append b y in omega (arith, p, q, size, own) in
           let same = packed-one files number (a ++ x) (b ++ y) xs ys longer rest
           (subst (λ (cs : List (List ℕ)). AreFronts cs files) on first) (subst (λ (cs : List (List ℕ)). AreFronts cs files) on_too second) in
@@ -53,8 +54,8 @@ packed-one files number a b (x ∷ xs) (y ∷ ys) size sizes first second =
       | inr full ↦
           let full_too = sym test ∙ full in
           let next = header_of (number + 1) in
-          let on : packed_on number a (x ∷ xs) ≡ a ∷ packed_on (number + 1) (next ++ x) xs = rw full refl in
-          let on_too : packed_on number b (y ∷ ys) ≡ b ∷ packed_on (number + 1) (next ++ y) ys = rw full_too refl in
+          let on = packed-opens number a x xs full in
+          let on_too = packed-opens number b y ys full_too in
           let all = subst (λ (cs : List (List ℕ)). AreFronts cs files) on first in
           let all_too = subst (λ (cs : List (List ℕ)). AreFronts cs files) on_too second in
           let longer : length (next ++ x) ≡ length (next ++ y) = let p = length-append next x in let q = length-append next y in omega (arith, p, q, own) in
@@ -87,14 +88,14 @@ packed-marks number container body [] begins (suc k) within = absurd (omega (ari
 packed-marks number container body (x ∷ chunks) begins k within =
     elim (cases_Bool (nat_le (length container + length x) MAX_CONTAINER)) [
       | inl fits ↦
-          let on : packed_on number container (x ∷ chunks) ≡ packed_on number (container ++ x) chunks = rw fits refl in
+          let on = packed-fits number container x chunks fits in
           let longer = ap (λ (l : List ℕ). l ++ x) begins ∙ append_assoc (header_of number) body x in
           subst (λ (cs : List (List ℕ)). IsFrontOf (header_of (number + k)) (slice_index_or cs k [])) (sym on)
           (packed-marks number (container ++ x) (body ++ x) chunks longer k (subst (λ (cs : List (List ℕ)). k < length cs) on within))
       | inr full ↦
           let next = header_of (number + 1) in
           let later = packed_on (number + 1) (next ++ x) chunks in
-          let on : packed_on number container (x ∷ chunks) ≡ container ∷ later = rw full refl in
+          let on = packed-opens number container x chunks full in
           subst (λ (cs : List (List ℕ)). IsFrontOf (header_of (number + k)) (slice_index_or cs k [])) (sym on)
           ((elim k as (λ n. n < length (container ∷ later) → IsFrontOf (header_of (number + n)) (slice_index_or (container ∷ later) n [])) [
             | zero ↦ λ first. (body, begins ∙ ap (λ (n : ℕ). header_of n ++ body) (omega arith))

@@ -34,6 +34,12 @@ FlawlessFilesHoldAState =
     OpenAs files opened → IsFlawOf name_of files opened None →
     (state : State) × IsLawful state × HoldState name_of files state × (opened ≡ opened_of name_of state)
 
+-- files that open have a first flaw, or none
+abbrev pub FilesThatOpenHaveAFlawOrNone : Type 0
+FilesThatOpenHaveAFlawOrNone =
+    (name_of : List ℕ → List ℕ) (files : File → List ℕ) (opened : Opened) →
+    OpenAs files opened → (flaw : Option Damage) × IsFlawOf name_of files opened flaw
+
 -- files that open so have one first flaw, or none
 abbrev pub FilesHaveOneFirstFlaw : Type 0
 FilesHaveOneFirstFlaw =

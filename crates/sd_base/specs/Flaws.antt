@@ -64,8 +64,8 @@ IsNew chunks i = (j : ℕ) → j < i → slice_index_or chunks j [] ≢ slice_in
 abbrev pub HasOccurred : ℕ → List ℕ → ℕ → Type 0
 HasOccurred earlier entries n = (n < earlier) ⊎ Contains entries n
 
--- Each chunk with a lower number than the entry at the place has occurred before it, so the entry
--- is not above their number. At the end of the recipe all chunks up to this session have occurred.
+-- Each chunk with a lower number than the entry at the place has occurred before it: the entry is not
+-- above the number of those that have. At the end of the recipe, each chunk up to this session has.
 abbrev pub IsInOrder : BookState → ℕ → ℕ → Type 0
 IsInOrder book k place =
     (n : ℕ) → n < slice_index_or (recipe_in_book book k) place (chunks_before book (suc k)) →
@@ -147,8 +147,8 @@ module _ (name_of : List ℕ → List ℕ) (opened : Opened) (chunks : List (Lis
     pub in_order : AreInOrder
     pub cut : AreCut
 
--- The first flaw of files that open so, or that they have none. If no container lacks its mark, then
--- the containers have chunks, and no others.
+-- This is the first flaw of files that open so, or they have none. If each container has its mark,
+-- then the containers have the chunks of one list, and of no other.
 abbrev pub IsFlawOf : (List ℕ → List ℕ) → (File → List ℕ) → Opened → Option Damage → Type 0
 IsFlawOf name_of files opened None = (chunks : List (List ℕ)) × (HaveChunks files opened chunks) × AreFlawless name_of opened chunks
 IsFlawOf name_of files opened (Some damage) =

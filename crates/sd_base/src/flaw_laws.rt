@@ -1,7 +1,7 @@
 //! Laws of what an audit finds in the files of a store. Each is the contract of a function that does
 //! nothing.
 
-ghost use Rattle.sd_base.specs.FlawLaws.{FlawlessFilesAreThoseOfLawfulStates, HeldStatesHaveNoFlaw, FlawlessFilesHoldAState, FilesHaveOneFirstFlaw, CountsAreThoseOfTheBook};
+ghost use Rattle.sd_base.specs.FlawLaws.{FlawlessFilesAreThoseOfLawfulStates, HeldStatesHaveNoFlaw, FlawlessFilesHoldAState, FilesThatOpenHaveAFlawOrNone, FilesHaveOneFirstFlaw, CountsAreThoseOfTheBook};
 
 /// Files open and have no flaw if and only if they hold a lawful state.
 pub fn flawless_files_are_those_of_lawful_states()
@@ -12,7 +12,8 @@ pub fn flawless_files_are_those_of_lawful_states()
 
 /// Files that open have one first flaw, or none.
 pub fn files_have_one_first_flaw()
-    ensures { FilesHaveOneFirstFlaw }
+    ensures some { FilesThatOpenHaveAFlawOrNone }
+    ensures one { FilesHaveOneFirstFlaw }
 {}
 
 /// `audit` shows of the book of a state what it shows of the state.
