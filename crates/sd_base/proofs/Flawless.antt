@@ -118,7 +118,7 @@ module _ (name_of : List ℕ → List ℕ) (files : File → List ℕ) (state : 
     containers = holds.containers;
   }
 
-  named-stored : AreNamed name_of (opened_of name_of state) (stored_chunks state)
+  named-stored : AreNamed name_of (book_of_state name_of state) (stored_chunks state)
   named-stored i within =
       let none : NewChunk = record { length = 0; name = [] } in
       sym (ap (λ (l : List NewChunk). (slice_index_or l i none).name) kept-chunks

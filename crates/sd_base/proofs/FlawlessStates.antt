@@ -289,13 +289,13 @@ module _ (name_of : List ℕ → List ℕ) (files : File → List ℕ) (head : H
       sessions-from_ingests (λ chunks. length (concat chunks) < 2 ^ 32) told.events [] tt
       (events-short name_of chunks head.params.max told.events [] [] lawful-again)
 
-  same-opened : record { head = head; book = book_after head.params.max records } ≡ opened_of name_of told
-  same-opened = ap (λ (rs : List Record). record { head = head; book = book_after head.params.max rs }) (sym told-records)
+  same-book : book_after head.params.max records ≡ book_of_state name_of told
+  same-book = ap (book_after head.params.max) (sym told-records)
 
-  cut-again : AreCut name_of (opened_of name_of told) (stored_chunks told)
+  cut-again : AreCut head.params (book_of_state name_of told) (stored_chunks told)
   cut-again =
-      subst (AreCut name_of (opened_of name_of told)) (sym again.1)
-      (subst (λ (opened : Opened). AreCut name_of opened chunks) same-opened flawless.cut)
+      subst (AreCut head.params (book_of_state name_of told)) (sym again.1)
+      (subst (λ (book : BookState). AreCut head.params book chunks) same-book flawless.cut)
 
   cut-sessions : All (λ session. IsCutting head.params session.chunks) (sessions_in told)
   cut-sessions =

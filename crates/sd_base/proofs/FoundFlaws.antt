@@ -107,7 +107,7 @@ module _ (name_of : List ℕ → List ℕ) (opened : Opened) (chunks : List (Lis
   FoundAmong : Type 0
   FoundAmong = AreFlawless name_of opened chunks ⊎ ((damage : Damage) × IsFlawAmong name_of opened chunks damage)
 
-  found-cut : AreNamed name_of opened chunks → AreNew name_of opened chunks → AreInOrder name_of opened chunks → FoundAmong
+  found-cut : AreNamed name_of opened.book chunks → AreNew chunks → AreInOrder opened.book → FoundAmong
   unfolding FoundAmong
   found-cut named different in_order =
       elim (place-or-all (length opened.book.sessions) (places_of_session opened.book) (IsCutAt opened.head.params opened.book chunks) decided-cut) [
@@ -118,7 +118,7 @@ module _ (name_of : List ℕ → List ℕ) (opened : Opened) (chunks : List (Lis
         )
       ]
 
-  found-order : AreNamed name_of opened chunks → AreNew name_of opened chunks → FoundAmong
+  found-order : AreNamed name_of opened.book chunks → AreNew chunks → FoundAmong
   unfolding FoundAmong
   found-order named different =
       elim (place-or-all (length opened.book.sessions) (places_and_end opened.book) (IsInOrder opened.book) decided-order) [
@@ -129,7 +129,7 @@ module _ (name_of : List ℕ → List ℕ) (opened : Opened) (chunks : List (Lis
         )
       ]
 
-  found-twin : AreNamed name_of opened chunks → FoundAmong
+  found-twin : AreNamed name_of opened.book chunks → FoundAmong
   unfolding FoundAmong
   found-twin named =
       elim (first-or-all (length chunks) (IsNew chunks) (λ i within. decided-below i (λ j. slice_index_or chunks j [] ≢ slice_index_or chunks i []) (λ j below. decided-apart (slice_index_or chunks j []) (slice_index_or chunks i [])))) [

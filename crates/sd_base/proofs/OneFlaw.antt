@@ -140,13 +140,13 @@ module _ (sessions : ℕ) (places : ℕ → ℕ) (Holds : ℕ → ℕ → Type 0
   place-one = first-one (places t) (Holds t) p q (subst (λ k. IsFirstFailing (places k) (Holds k) p) session-one first.first) second.first
 
 module _ (name_of : List ℕ → List ℕ) (opened : Opened) (chunks : List (List ℕ)) where
-  named-clash : (damage : Damage) → IsChunkFlaw name_of opened chunks damage → AreNamed name_of opened chunks → ⊥
+  named-clash : (damage : Damage) → IsChunkFlaw name_of opened chunks damage → AreNamed name_of opened.book chunks → ⊥
   named-clash damage flaw named = flaw.first.fails (named flaw.number flaw.first.within)
 
-  new-clash : (damage : Damage) → IsTwinFlaw name_of opened chunks damage → AreNew name_of opened chunks → ⊥
+  new-clash : (damage : Damage) → IsTwinFlaw name_of opened chunks damage → AreNew chunks → ⊥
   new-clash damage flaw new = flaw.first.fails (new flaw.number flaw.first.within)
 
-  order-clash : (damage : Damage) → IsOrderFlaw name_of opened chunks damage → AreInOrder name_of opened chunks → ⊥
+  order-clash : (damage : Damage) → IsOrderFlaw name_of opened chunks damage → AreInOrder opened.book → ⊥
   order-clash damage flaw in_order = flaw.first.first.fails (in_order flaw.session flaw.first.within flaw.place flaw.first.first.within)
 
   flawless-clash : (damage : Damage) → IsFlawAmong name_of opened chunks damage → AreFlawless name_of opened chunks → ⊥

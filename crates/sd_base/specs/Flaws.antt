@@ -87,23 +87,23 @@ chunks_of_session book chunks k = map (λ n. slice_index_or chunks n []) (recipe
 abbrev pub IsCutAt : RawParams → BookState → List (List ℕ) → ℕ → ℕ → Type 0
 IsCutAt params book chunks k place = IsOfTheCutting params (chunks_of_session book chunks k) place
 
+-- each of these chunks has its name
+abbrev pub AreNamed : (List ℕ → List ℕ) → BookState → List (List ℕ) → Type 0
+AreNamed name_of book chunks = HoldsBelow (length chunks) (IsNamed name_of book chunks)
+
+-- no two of these chunks are equal
+abbrev pub AreNew : List (List ℕ) → Type 0
+AreNew chunks = HoldsBelow (length chunks) (IsNew chunks)
+
+-- each recipe is in order, and so is its end, which counts as one place more
+abbrev pub AreInOrder : BookState → Type 0
+AreInOrder book = HoldsAtPlaces (length book.sessions) (places_and_end book) (IsInOrder book)
+
+-- each session is the cutting of its bytes
+abbrev pub AreCut : RawParams → BookState → List (List ℕ) → Type 0
+AreCut params book chunks = HoldsAtPlaces (length book.sessions) (places_of_session book) (IsCutAt params book chunks)
+
 module _ (name_of : List ℕ → List ℕ) (opened : Opened) (chunks : List (List ℕ)) where
-  -- each chunk has its name
-  abbrev pub AreNamed : Type 0
-  AreNamed = HoldsBelow (length chunks) (IsNamed name_of opened.book chunks)
-
-  -- no two chunks are equal
-  abbrev pub AreNew : Type 0
-  AreNew = HoldsBelow (length chunks) (IsNew chunks)
-
-  -- each recipe is in order, and so is its end, which counts as one place more
-  abbrev pub AreInOrder : Type 0
-  AreInOrder = HoldsAtPlaces (length opened.book.sessions) (places_and_end opened.book) (IsInOrder opened.book)
-
-  -- each session is the cutting of its bytes
-  abbrev pub AreCut : Type 0
-  AreCut = HoldsAtPlaces (length opened.book.sessions) (places_of_session opened.book) (IsCutAt opened.head.params opened.book chunks)
-
   -- the first chunk without its name
   pub record IsChunkFlaw (damage : Damage) : Type 0 where
     pub number : ℕ
@@ -112,15 +112,15 @@ module _ (name_of : List ℕ → List ℕ) (opened : Opened) (chunks : List (Lis
 
   -- the first chunk that has the bytes of an earlier one, and the first of those
   pub record IsTwinFlaw (damage : Damage) : Type 0 where
-    pub named : AreNamed
+    pub named : AreNamed name_of opened.book chunks
     pub number : ℕ
     pub first : IsFirstFailing (length chunks) (IsNew chunks) number
     pub equals : damage ≡ Twin (first_index chunks (slice_index_or chunks number [])) number
 
   -- the first place that is out of order
   pub record IsOrderFlaw (damage : Damage) : Type 0 where
-    pub named : AreNamed
-    pub different : AreNew
+    pub named : AreNamed name_of opened.book chunks
+    pub different : AreNew chunks
     pub session : ℕ
     pub place : ℕ
     pub first : IsFirstFailingPlace (length opened.book.sessions) (places_and_end opened.book) (IsInOrder opened.book) session place
@@ -128,9 +128,9 @@ module _ (name_of : List ℕ → List ℕ) (opened : Opened) (chunks : List (Lis
 
   -- the first place whose chunk is not the one of the cutting
   pub record IsCutFlaw (damage : Damage) : Type 0 where
-    pub named : AreNamed
-    pub different : AreNew
-    pub in_order : AreInOrder
+    pub named : AreNamed name_of opened.book chunks
+    pub different : AreNew chunks
+    pub in_order : AreInOrder opened.book
     pub session : ℕ
     pub place : ℕ
     pub first : IsFirstFailingPlace (length opened.book.sessions) (places_of_session opened.book) (IsCutAt opened.head.params opened.book chunks) session place
@@ -142,10 +142,10 @@ module _ (name_of : List ℕ → List ℕ) (opened : Opened) (chunks : List (Lis
 
   -- these chunks and their sessions have no flaw
   pub record AreFlawless : Type 0 where
-    pub named : AreNamed
-    pub different : AreNew
-    pub in_order : AreInOrder
-    pub cut : AreCut
+    pub named : AreNamed name_of opened.book chunks
+    pub different : AreNew chunks
+    pub in_order : AreInOrder opened.book
+    pub cut : AreCut opened.head.params opened.book chunks
 
 -- This is the first flaw of files that open so, or they have none. If each container has its mark,
 -- then the containers have the chunks of one list, and of no other.
