@@ -2,7 +2,7 @@
 -- named by their first byte there, so that the examples are short.
 use Rattle.std.specs.Prelude.{◌≡◌, ℕ, ◌<◌, List, [], ◌∷◌, ◌++◌, length, map, replicate, slice_index_or, codes, Some}
 use Rattle.std.specs.Int.Count.{count_leading_zeros}
-use Rattle.std.proofs.Common.{inl, inr, zero, suc, refl, sym, ap, subst, ◌∙◌, append-nil, lit<, true, arith}
+use Rattle.std.proofs.Common.{inl, inr, zero, suc, refl, sym, ap, subst, ◌∙◌, append-nil, lit<, lit≤, true, arith}
 use Rattle.std.specs.Fmt.{digits}
 use Rattle.sd_base.specs.Audits.{audit_text, counts_of_state}
 use Rattle.sd_base.specs.StoreExamples.{once_dropped, one_empty}
@@ -161,7 +161,7 @@ flaw-of_an_order = inr (
       first = record {
         within = lit< tt;
         before = none (IsInOrder second_first.book 0);
-        fails = λ in_order. elim (in_order 0 (lit< tt)) [ inl earlier ↦ absurd (omega (arith, earlier)) | inr among ↦ absurd (omega (arith, among.1)) ];
+        fails = λ in_order. absurd (omega (arith, in_order));
       };
     };
     equals = refl;
@@ -174,16 +174,10 @@ first_alone = one_session a_and_b 2 (0 ∷ [])
 
 -- a recipe that begins with the first chunk is in order there
 begins_with_the_first : IsInOrder first_alone.book 0 0
-begins_with_the_first n below = absurd (omega (arith, below))
+begins_with_the_first = lit≤ tt
 
 second_is_missing : IsInOrder first_alone.book 0 1 → ⊥
-second_is_missing in_order = elim (in_order 1 (lit< tt)) [
-  | inl earlier ↦ absurd (omega (arith, earlier))
-  | inr among ↦
-      let first : among.0 ≡ 0 = omega (arith, among.1) in
-      let clash : 0 ≡ 1 = subst (λ (k : ℕ). slice_index_or (0 ∷ []) k 1 ≡ 1) first among.2 in
-      absurd (omega (arith, clash))
-]
+second_is_missing in_order = absurd (omega (arith, in_order))
 
 pub flaw-of_a_chunk_in_no_place : IsFlawOf by_first_byte (holding a_and_b) first_alone (Some (damage.Order 0 1))
 flaw-of_a_chunk_in_no_place = inr (
@@ -215,11 +209,9 @@ unfolding count_leading_zeros next_cut cuts_within
 cut_earlier = refl
 
 in_order_alone : (place : ℕ) → place < 2 → IsInOrder not_cut.book 0 place
-in_order_alone zero within n below = absurd (omega (arith, below))
-in_order_alone (suc zero) within n below =
-    let first : 0 ≡ n = omega (arith, below) in
-    inr (0, lit< tt, first)
-in_order_alone (suc (suc place)) within n below = absurd (omega (arith, within))
+in_order_alone zero within = lit≤ tt
+in_order_alone (suc zero) within = lit≤ tt
+in_order_alone (suc (suc place)) within = absurd (omega (arith, within))
 
 pub flaw-of_a_cut : IsFlawOf by_first_byte (holding uncut) not_cut (Some (damage.Cut 0 0))
 flaw-of_a_cut = inr (

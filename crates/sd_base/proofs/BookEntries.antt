@@ -18,7 +18,8 @@ use Rattle.sd_base.specs.declared.record.NewChunk.{NewChunk}
 use Rattle.sd_base.specs.declared.record.Record.{Record}
 use Rattle.sd_base.specs.declared.record.Record.TheVariants.{Ingest, Drop}
 use Rattle.sd_base.specs.declared.record.Session.{Session}
-use Rattle.sd_base.proofs.InOrder.{IsOrdered, IsWalk, walk-ordered}
+use Rattle.sd_base.proofs.Counted.{IsCounted, walk-counted}
+use Rattle.sd_base.proofs.InOrder.{IsWalk}
 
 -- the ingests among records
 abbrev pub entries_of : List Record → List IngestRecord
@@ -103,7 +104,7 @@ abbrev pub AreOrdered : ℕ → List Session → Type 0
 AreOrdered known sessions =
     (i : ℕ) → i < length sessions → (a b : ℕ) → a ≡ known + length (chunks_in (take i sessions)) →
     b ≡ known + length (chunks_in (take (suc i) sessions)) →
-    IsOrdered a (slice_index_or (map (λ (s : Session). s.entry.recipe) sessions) i []) b
+    IsCounted a (slice_index_or (map (λ (s : Session). s.entry.recipe) sessions) i []) b
 
 later-ordered : (kept : List NewChunk) (s : Session) (sessions : List Session) →
     AreOrdered (length kept) (s ∷ sessions) → AreOrdered (length (kept ++ s.entry.fresh)) sessions
@@ -124,7 +125,7 @@ sound-sessions kept k (s ∷ sessions) none ordered =
     let longer = length-append kept s.entry.fresh in
     let first = length-append s.entry.fresh (chunks_in []) in
     let here = ordered 0 (omega arith) (length kept) (length all) (omega arith) (omega (arith, longer, first)) in (
-      walk-ordered (length kept) s.entry.recipe (length all) (no_position (length all) s.entry.recipe own.0) (omega (arith, longer)) here,
+      walk-counted (length kept) s.entry.recipe (length all) (no_position (length all) s.entry.recipe own.0) (omega (arith, longer)) here,
       same_if_none (bytes_named all s.entry.recipe) s.entry.length (length s.entry.recipe) own.1,
       sound-sessions all (k + 1) sessions parts.1 (later-ordered kept s sessions ordered),
     )

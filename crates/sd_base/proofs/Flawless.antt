@@ -23,7 +23,8 @@ use Rattle.sd_base.specs.declared.record.NewChunk.{NewChunk}
 use Rattle.sd_base.specs.declared.record.Session.{Session}
 use Rattle.sd_base.proofs.Distinct.{distinct-different}
 use Rattle.sd_base.proofs.HeldStates.{chunks-placed, lengths-named, sessions-book, sizes-book}
-use Rattle.sd_base.proofs.InOrder.{IsOrdered, among-at, ordered-walk, walk-numbers}
+use Rattle.sd_base.proofs.Counted.{IsCounted, counted-walk}
+use Rattle.sd_base.proofs.InOrder.{among-at, walk-numbers}
 use Rattle.sd_base.proofs.Recipes.{recipes_name_their_chunks}
 use Rattle.sd_base.proofs.StateBooks.{chunks-book, length-book, session_chunks}
 
@@ -91,7 +92,7 @@ module _ (name_of : List ℕ → List ℕ) (stored : List (List ℕ)) where
 
     -- the recipe of a session is in order
     ordered-book : stored ≡ distinct (session_chunks sessions) → (k : ℕ) → k < length sessions →
-        IsOrdered (chunks_before book k) (recipe_in_book book k) (chunks_before book (suc k))
+        IsCounted (chunks_before book k) (recipe_in_book book k) (chunks_before book (suc k))
     ordered-book all k within =
         let before = session_chunks (take k sessions) in
         let own = own_chunks sessions k in
@@ -99,10 +100,10 @@ module _ (name_of : List ℕ → List ℕ) (stored : List (List ℕ)) where
         let walk = walk-numbers stored before own after (all ∙ ap distinct (session_chunks-split sessions k within)) in
         let total : length (distinct (before ++ own)) ≡ chunks_before book (suc k) =
         ap (λ (l : List (List ℕ)). length (distinct l)) (session_chunks-more sessions k within) ∙ sym (before-book (suc k)) in
-        subst (λ (n : ℕ). IsOrdered n (recipe_in_book book k) (chunks_before book (suc k))) (sym (before-book k))
-        (subst (λ (r : List ℕ). IsOrdered (length (distinct before)) r (chunks_before book (suc k))) (sym (recipe-book k))
-        (subst (λ (n : ℕ). IsOrdered (length (distinct before)) (map (first_index stored) own) n) total
-        (ordered-walk (length (distinct before)) (map (first_index stored) own) (length (distinct (before ++ own))) walk)))
+        subst (λ (n : ℕ). IsCounted n (recipe_in_book book k) (chunks_before book (suc k))) (sym (before-book k))
+        (subst (λ (r : List ℕ). IsCounted (length (distinct before)) r (chunks_before book (suc k))) (sym (recipe-book k))
+        (subst (λ (n : ℕ). IsCounted (length (distinct before)) (map (first_index stored) own) n) total
+        (counted-walk (length (distinct before)) (map (first_index stored) own) (length (distinct (before ++ own))) walk)))
 
 module _ (name_of : List ℕ → List ℕ) (files : File → List ℕ) (state : State) where
   -- the chunks of the book of a state

@@ -33,7 +33,8 @@ use Rattle.sd_base.specs.declared.record.Record.{Record}
 use Rattle.sd_base.specs.declared.record.Record.TheVariants.{Ingest, Drop}
 use Rattle.sd_base.proofs.BookEntries.{AreSound, IsWithin, chunks-of_entries, entries-of_sessions, entries_of, fresh_of, records-within, some-fresh, sound-sessions}
 use Rattle.sd_base.proofs.Distinct.{distinct-append}
-use Rattle.sd_base.proofs.InOrder.{IsOrdered, IsWalk, distinct-walk, numbers-of_entries, walk-below}
+use Rattle.sd_base.proofs.Counted.{IsCounted}
+use Rattle.sd_base.proofs.InOrder.{IsWalk, distinct-walk, numbers-of_entries, walk-below}
 
 -- chunks that have the lengths and names of others are those others, by length and name
 pub kept-named : (name_of : List ℕ → List ℕ) (chunks : List (List ℕ)) (kept : List NewChunk) →
@@ -254,8 +255,8 @@ module _ (name_of : List ℕ → List ℕ) (files : File → List ℕ) (head : H
       let x : length (chunks_in (take i sessions)) ≡ a = omega (arith, first) in
       let y : length (chunks_in (take (suc i) sessions)) ≡ b = omega (arith, last) in
       let recipe = slice_index_or (map (λ (s : Session). s.entry.recipe) sessions) i [] in
-      subst (λ (n : ℕ). IsOrdered a recipe n) y
-      (subst (λ (n : ℕ). IsOrdered n recipe (length (chunks_in (take (suc i) sessions)))) x (flawless.in_order i within))))
+      subst (λ (n : ℕ). IsCounted a recipe n) y
+      (subst (λ (n : ℕ). IsCounted n recipe (length (chunks_in (take (suc i) sessions)))) x (flawless.in_order i within))))
 
   kept-chunks : map (named name_of) chunks ≡ chunks_in (sessions_of records)
   kept-chunks = kept-named name_of chunks (chunks_in (sessions_of records)) have.lengths flawless.named

@@ -1,14 +1,14 @@
 -- Files that open have a first flaw, or none: each thing that an audit looks at can be decided.
-use Rattle.std.proofs.Common.{◌≡◌, ◌≢◌, inl, inr, ◌⊎◌, ℕ, zero, suc, ◌<◌, true, false, Option, Some, None, List, [], ◌∷◌, length, take, slice_index_or, refl, sym, subst, ◌∙◌, arith}
+use Rattle.std.proofs.Common.{◌≡◌, ◌≢◌, inl, inr, ◌⊎◌, ℕ, zero, suc, ◌<◌, true, false, Option, Some, None, List, [], length, take, slice_index_or, refl, sym, subst, ◌∙◌, arith}
 use Rattle.std.specs.Int.{w64, from_be_bytes}
-use Rattle.std.specs.List.{Contains, concat}
+use Rattle.std.specs.List.{concat}
 use Rattle.std.specs.Str.{bytes_eq}
 use Rattle.std.proofs.lemmas.Bool.{cases_Bool, cases_lt}
 use Rattle.std.proofs.lemmas.Slice.Eq.{bytes_eq-Decides}
 use Rattle.sd_base.specs.Cutting.{chunks_of}
 use Rattle.sd_base.specs.Distinct.{first_index}
 use Rattle.sd_base.specs.Firsts.{HoldsAtPlaces, HoldsBelow, IsFirstFailing, IsFirstFailingPlace}
-use Rattle.sd_base.specs.Flaws.{AreFlawless, AreInOrder, AreNamed, AreNew, HasMark, HasOccurred, IsCutAt, IsFlawAmong, IsFlawOf, IsInOrder, IsNamed, IsNew, chunks_before, chunks_of_session, kept_in_book, places_and_end, places_of_session, recipe_in_book}
+use Rattle.sd_base.specs.Flaws.{AreFlawless, AreInOrder, AreNamed, AreNew, HasMark, IsCutAt, IsFlawAmong, IsFlawOf, IsInOrder, IsNamed, IsNew, chunks_before, chunks_of_session, kept_in_book, occurred_before, places_and_end, places_of_session, recipe_in_book}
 use Rattle.sd_base.specs.Opening.{OpenAs, Opened, needed_sizes}
 use Rattle.sd_base.specs.Packing.{header_of}
 use Rattle.sd_base.specs.declared.damage.Damage.{Damage}
@@ -16,7 +16,6 @@ use Rattle.sd_base.specs.declared.damage.Damage.TheVariants.{Mark, Chunk, Twin, 
 use Rattle.sd_base.specs.declared.file.File.{File}
 use Rattle.sd_base.specs.declared.file.File.TheVariants.{Container}
 use Rattle.sd_base.specs.declared.limits.TheConstants.{CONTAINER_HEADER}
-use Rattle.sd_base.proofs.InOrder.{contains-later, contains-none, contains-parts}
 use Rattle.sd_base.proofs.MarkedContainers.{have-chunks}
 
 -- it holds or it does not
@@ -70,34 +69,13 @@ decided-apart a b = elim (decided-equal a b) [
   | inr other ↦ inl other
 ]
 
-decided-contains : (entries : List ℕ) (n : ℕ) → Decided (Contains entries n)
-decided-contains [] n = inr (contains-none n)
-decided-contains (e ∷ entries) n = elim (decided-contains entries n) [
-  | inl later ↦ inl (contains-later e n entries later)
-  | inr not_later ↦ elim (cases_lt e n) [
-    | inl below ↦ inr (λ at. elim (contains-parts e n entries at) [ inl first ↦ absurd (omega (arith, first, below)) | inr later ↦ not_later later ])
-    | inr not_below ↦ elim (cases_lt n e) [
-      | inl above ↦ inr (λ at. elim (contains-parts e n entries at) [ inl first ↦ absurd (omega (arith, first, above)) | inr later ↦ not_later later ])
-      | inr not_above ↦ let same : e ≡ n = omega arith in inl (0, omega arith, same)
-    ]
-  ]
-]
-
-decided-occurred : (earlier : ℕ) (entries : List ℕ) (n : ℕ) → Decided (HasOccurred earlier entries n)
-decided-occurred earlier entries n = elim (cases_lt n earlier) [
-  | inl before ↦ inl (inl before)
-  | inr not_before ↦ elim (decided-contains entries n) [
-    | inl among ↦ inl (inr among)
-    | inr none ↦ inr (λ occurred. elim occurred [ inl before ↦ absurd (omega (arith, before, not_before)) | inr among ↦ none among ])
-  ]
-]
-
 module _ (name_of : List ℕ → List ℕ) (opened : Opened) (chunks : List (List ℕ)) where
   decided-order : (k place : ℕ) → Decided (IsInOrder opened.book k place)
   decided-order k place =
-      let recipe = recipe_in_book opened.book k in
-      decided-below (slice_index_or recipe place (chunks_before opened.book (suc k))) (HasOccurred (chunks_before opened.book k) (take place recipe))
-      (λ n within. decided-occurred (chunks_before opened.book k) (take place recipe) n)
+      elim (cases_lt (occurred_before opened.book k place) (slice_index_or (recipe_in_book opened.book k) place (chunks_before opened.book (suc k)))) [
+        | inl above ↦ inr (λ in_order. absurd (omega (arith, in_order, above)))
+        | inr not_above ↦ inl not_above
+      ]
 
   decided-cut : (k place : ℕ) → Decided (IsCutAt opened.head.params opened.book chunks k place)
   decided-cut k place =

@@ -7,7 +7,7 @@ use Rattle.std.proofs.lemmas.List.{get_or-take, take_more}
 use Rattle.sd_base.proofs.States.{among_own, among_second}
 use Rattle.std.proofs.lemmas.Slice.Eq.{bytes_eq-Decides}
 use Rattle.sd_base.specs.Distinct.{is_among, distinct, first_index, new_chunks}
-use Rattle.sd_base.specs.Flaws.{HasOccurred, IsNew}
+use Rattle.sd_base.specs.Flaws.{IsNew}
 use Rattle.sd_base.specs.Firsts.{HoldsBelow}
 use Rattle.sd_base.proofs.Distinct.{distinct-append, first_index-append, is_among-distinct}
 use Rattle.sd_base.proofs.StateBooks.{first_index-below}
@@ -32,6 +32,10 @@ walk-below known (n ∷ entries) total walk = elim walk [
   | inr new ↦ let later = walk-le (known + 1) entries total new.1 in (omega (arith, later, new.0), walk-below (known + 1) entries total new.1)
 ]
 
+-- chunk n is one of those known before, or these entries name it
+abbrev pub HasOccurred : ℕ → List ℕ → ℕ → Type 0
+HasOccurred known entries n = (n < known) ⊎ Contains entries n
+
 -- at each place of the entries, and at their end, all chunks with lower numbers have occurred
 abbrev pub IsOrdered : ℕ → List ℕ → ℕ → Type 0
 IsOrdered known entries total =
@@ -46,7 +50,7 @@ pub contains-parts : (e n : ℕ) (entries : List ℕ) → Contains (e ∷ entrie
 contains-parts e n entries (zero, within, at) = inl (sym at)
 contains-parts e n entries (suc k, within, at) = inr (k, omega (arith, within), at)
 
-pub contains-none : (n : ℕ) → Contains [] n → ⊥
+contains-none : (n : ℕ) → Contains [] n → ⊥
 contains-none n at = absurd (omega (arith, at.1))
 
 pub ordered-walk : (known : ℕ) (entries : List ℕ) (total : ℕ) → IsWalk known entries total → IsOrdered known entries total

@@ -37,6 +37,8 @@ pub mod StateBooks
 pub mod HeldStates
 -- recipes that name chunks in the order of first occurrence
 pub mod InOrder
+-- order by the number of chunks that have occurred
+pub mod Counted
 -- files that hold a lawful state have no flaw
 pub mod Flawless
 -- the ingests of a book, one after another

@@ -3,9 +3,9 @@
 -- chunks out of the order in which they first occur, and sessions that are not cut by the
 -- parameters. All sessions of the book are looked at, dropped ones too. All rules here are this
 -- project's own.
-use Rattle.std.specs.Prelude.{◌≡◌, ◌≢◌, ◌⊎◌, ℕ, suc, ◌<◌, List, [], length, map, take, slice_index_or, Option, Some, None}
+use Rattle.std.specs.Prelude.{◌≡◌, ◌≢◌, ◌⊎◌, ℕ, suc, ◌+◌, ◌-◌, ◌<◌, ◌≤◌, ◌==◌, Bool, List, [], length, map, take, slice_index_or, Option, Some, None}
 use Rattle.std.specs.Int.{w64, from_be_bytes}
-use Rattle.std.specs.List.{Contains}
+use Rattle.std.specs.List.{count_by, list_any, range_with_len}
 use Rattle.sd_base.specs.Books.{BookState, chunks_in}
 use Rattle.sd_base.specs.Cuttings.{IsOfTheCutting}
 use Rattle.sd_base.specs.Distinct.{first_index}
@@ -32,6 +32,10 @@ recipe_in_book book k = slice_index_or (map (λ session. session.entry.recipe) b
 -- the number of chunks of the first k sessions of a book
 abbrev pub chunks_before : BookState → ℕ → ℕ
 chunks_before book k = length (chunks_in (take k book.sessions))
+
+-- whether entries of a recipe name chunk n
+abbrev pub names_chunk : List ℕ → ℕ → Bool
+names_chunk entries n = list_any (λ entry. entry == n) entries
 
 module _ (files : File → List ℕ) (opened : Opened) where
   -- container k begins with its header
@@ -60,16 +64,19 @@ IsNamed name_of book chunks i = name_of (slice_index_or chunks i []) ≡ (kept_i
 abbrev pub IsNew : List (List ℕ) → ℕ → Type 0
 IsNew chunks i = (j : ℕ) → j < i → slice_index_or chunks j [] ≢ slice_index_or chunks i []
 
--- chunk n has occurred: an earlier session has it, or these entries name it
-abbrev pub HasOccurred : ℕ → List ℕ → ℕ → Type 0
-HasOccurred earlier entries n = (n < earlier) ⊎ Contains entries n
+-- how many chunks have occurred before a place of session k: those of earlier sessions, and those new
+-- ones that the recipe names at an earlier place
+abbrev pub occurred_before : BookState → ℕ → ℕ → ℕ
+occurred_before book k place =
+    let earlier = chunks_before book k in
+    let new_numbers = range_with_len earlier (chunks_before book (suc k) - earlier) in
+    earlier + count_by (λ n. names_chunk (take place (recipe_in_book book k)) n) new_numbers
 
--- Each chunk with a lower number than the entry at the place has occurred before it: the entry is not
--- above the number of those that have. At the end of the recipe, each chunk up to this session has.
+-- The entry at the place is not above the number of chunks that have occurred before it. At the end
+-- of the recipe, all chunks up to and with this session have occurred.
 abbrev pub IsInOrder : BookState → ℕ → ℕ → Type 0
 IsInOrder book k place =
-    (n : ℕ) → n < slice_index_or (recipe_in_book book k) place (chunks_before book (suc k)) →
-    HasOccurred (chunks_before book k) (take place (recipe_in_book book k)) n
+    slice_index_or (recipe_in_book book k) place (chunks_before book (suc k)) ≤ occurred_before book k place
 
 -- the places of session k at which chunks are in order: those of its recipe, and its end
 abbrev pub places_and_end : BookState → ℕ → ℕ
