@@ -64,8 +64,8 @@ IsNamed name_of book chunks i = name_of (slice_index_or chunks i []) ≡ (kept_i
 abbrev pub IsNew : List (List ℕ) → ℕ → Type 0
 IsNew chunks i = (j : ℕ) → j < i → slice_index_or chunks j [] ≢ slice_index_or chunks i []
 
--- how many chunks have occurred before a place of session k: those of earlier sessions, and those new
--- ones that the recipe names at an earlier place
+-- how many chunks have occurred before a place of session k: those of earlier sessions, and those
+-- new ones that the recipe names at an earlier place
 abbrev pub occurred_before : BookState → ℕ → ℕ → ℕ
 occurred_before book k place =
     let earlier = chunks_before book k in
