@@ -1,5 +1,5 @@
 //! The book of a store.
-ghost use Rattle.std.specs.Prelude.{◌≡◌, ◌<◌, ◌^◌, ℕ, [], length, option_map, option_copied, IfOk, OnOk, OnErr, IsOk, IsTrue, ◌↔◌, ◌≤◌};
+ghost use Rattle.std.specs.Prelude.{◌≡◌, ◌+◌, ◌<◌, ◌^◌, ℕ, [], ◌∷◌, ◌++◌, length, vec_len, vec_capacity, true, option_map, option_copied, IfOk, OnOk, OnErr, IsOk, IsTrue, ◌↔◌, ◌≤◌};
 ghost use Rattle.std.specs.List.{All, slice_get};
 ghost use Rattle.sd_base.specs.Records.{IsIngestWithinLimits, IsIngest, IsRecord, IsWithinLimits};
 ghost use Rattle.session_book.specs.BookFields.{HasRoom};
@@ -12,7 +12,7 @@ use sd_base::{
     Damage, IngestRecord, MAX_CHUNKS, MAX_PLACES, MAX_SESSIONS, Name, NewChunk, OutOfMemory,
     Record, Session,
 };
-use std::alloc::Global;
+use std::alloc::{AllocError, Global};
 use std::collections::BTreeMap;
 use std::marker::Model;
 
@@ -92,13 +92,15 @@ impl Book {
         let places = entry.recipe.as_slice().len() as u32;
         let session = self.sessions.len() as u32;
 
-        // Once there is room for the chunks and the session, only the insertion of the name can
+        // Once there is room for the session and its chunks, only the insertion of the name can
         // still fail.
-        self.chunks.reserve(entry.fresh.as_slice().len())?;
-        self.sessions.reserve(1)?;
+        make_room(
+            &mut self.sessions,
+            &mut self.chunks,
+            entry.fresh.as_slice().len(),
+        )?;
         self.by_name.insert(entry.name, session)?;
-        self.chunks.extend_from_slice(entry.fresh.as_slice())?;
-        self.sessions.push(Session { entry, live: true })?;
+        append_session(&mut self.sessions, &mut self.chunks, entry)?;
         self.places += places;
         self.used += size as u64;
         Ok(())
@@ -210,6 +212,38 @@ impl Book {
     {
         self.used
     }
+}
+
+// Makes room for one more session, with so many new chunks.
+fn make_room(
+    sessions: &mut Vec<Session>,
+    chunks: &mut Vec<NewChunk>,
+    fresh: usize,
+) -> Result<(), AllocError>
+    ensures sessions { sessions.new.items ≡ sessions.old.items }
+    ensures chunks { chunks.new.items ≡ chunks.old.items }
+    ensures room { OnOk result ((vec_len sessions.new < vec_capacity sessions.new)
+        × (vec_len chunks.new + fresh ≤ vec_capacity chunks.new)) }
+{
+    chunks.reserve(fresh)?;
+    sessions.reserve(1)
+}
+
+// Appends a session and its new chunks. There is room for them, so it never fails.
+fn append_session(
+    sessions: &mut Vec<Session>,
+    chunks: &mut Vec<NewChunk>,
+    entry: IngestRecord,
+) -> Result<(), AllocError>
+    requires session_room { vec_len sessions.old < vec_capacity sessions.old }
+    requires chunk_room { vec_len chunks.old + length entry.fresh ≤ vec_capacity chunks.old }
+    ensures never_fails { IsOk result }
+    ensures sessions { sessions.new.items ≡ sessions.old.items ++ record { entry = entry; live = true } ∷ [] }
+    ensures chunks { chunks.new.items ≡ chunks.old.items ++ entry.fresh }
+{
+    chunks.extend_from_slice(entry.fresh.as_slice())?;
+    sessions.push_reserved(Session { entry, live: true });
+    Ok(())
 }
 
 // Marks a live session as dropped.

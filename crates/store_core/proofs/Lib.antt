@@ -1,4 +1,5 @@
--- In reading order. The folders beside this file have the answers of single functions.
+-- In reading order. The folders beside this file have the answers of single functions. Where one is
+-- `search rules`, the check would find it too, but after longer searches.
 
 -- parameters that were read from settings have these settings
 mod SettingsLemmas
@@ -6,6 +7,8 @@ mod SettingsLemmas
 mod BookFiles
 -- what a replay of the records that were read says of the files
 mod OpeningLemmas
+-- what a call passes on of a call within it
+mod Passing
 -- the parts of the verdict of opening, put together
 pub mod StoreLemmas
 -- opening has one verdict

@@ -1,26 +1,44 @@
-use Rattle.std.proofs.Common.{ap, ◌∙◌}
+use Rattle.std.proofs.Common.{rules, ap, ◌∙◌}
 use Rattle.std.specs.Prelude.{Err}
 use Rattle.container_pack.proofs.PackerLemmas.{on_err}
 use Rattle.container_pack.proofs.ShelfLemmas.{AppendedAt-cut, KeepsFront-refused_append, KeepsFront-refused_cut}
 use Rattle.sd_base.specs.declared.file.File.TheVariants.{Book}
 use Rattle.store_core.proofs.commit_files.write_record.Goals as goal
 
-pub returns-in_err-cut-clause-refused : goal.returns-in_err-cut-clause-refused
-returns-in_err-cut-clause-refused g c = on_err c.from_residual.result (record {
-  book = KeepsFront-refused_cut (Book c.args.generation) c.args.used (g.F.Shelf.files c.args.shelf.now)
-      (g.F.Shelf.files c.cut.new.self) (Err c.in_err-cut.field-0.0) c.in_err-cut.ensures.cut_or_same
-      c.in_err-cut.ensures.out_of_memory;
-  others = c.cut.ensures.other_files;
-})
+pub returns-in_err-cut : goal.returns-in_err-cut
+returns-in_err-cut g c = record {
+  written = search rules;
+  other_files = search rules;
+  flushed = search rules;
+  refused = on_err c.from_residual.result (record {
+    book = KeepsFront-refused_cut (Book c.args.generation) c.args.used (g.F.Shelf.files c.args.shelf.now)
+        (g.F.Shelf.files c.cut.new.self) (Err c.in_err-cut.field-0.0) c.in_err-cut.ensures.cut_or_same
+        c.in_err-cut.ensures.out_of_memory;
+    others = c.cut.ensures.other_files;
+  });
+  generation = search rules;
+  behind = search rules;
+  none_left = search rules;
+  counts = search rules;
+}
 
-pub returns-in_err-append-clause-refused : goal.returns-in_err-append-clause-refused
-returns-in_err-append-clause-refused g c = on_err c.from_residual-in_err-append.result (record {
-  book = KeepsFront-refused_append (Book c.args.generation) c.args.used (g.F.Shelf.files c.args.shelf.now)
-      (g.F.Shelf.files c.append.new.self) (g.F.Shelf.files c.cut.new.self) c.args.bytes.now c.in_ok-cut.ensures.cut
-      c.in_err-append.field-0.0 (λ failed. c.in_err-append.ensures.prefix (ap Err failed))
-      (λ none. c.in_err-append.ensures.out_of_memory (ap Err none));
-  others = λ f apart. c.append.ensures.other_files f apart ∙ c.cut.ensures.other_files f apart;
-})
+pub returns-in_err-append : goal.returns-in_err-append
+returns-in_err-append g c = record {
+  written = search rules;
+  other_files = search rules;
+  flushed = search rules;
+  refused = on_err c.from_residual-in_err-append.result (record {
+    book = KeepsFront-refused_append (Book c.args.generation) c.args.used (g.F.Shelf.files c.args.shelf.now)
+        (g.F.Shelf.files c.append.new.self) (g.F.Shelf.files c.cut.new.self) c.args.bytes.now c.in_ok-cut.ensures.cut
+        c.in_err-append.field-0.0 (λ failed. c.in_err-append.ensures.prefix (ap Err failed))
+        (λ none. c.in_err-append.ensures.out_of_memory (ap Err none));
+    others = λ f apart. c.append.ensures.other_files f apart ∙ c.cut.ensures.other_files f apart;
+  });
+  generation = search rules;
+  behind = search rules;
+  none_left = search rules;
+  counts = search rules;
+}
 
 pub returns-in_err-flush-clause-refused : goal.returns-in_err-flush-clause-refused
 returns-in_err-flush-clause-refused g c = on_err c.from_residual-in_err-flush.result (record {

@@ -12,15 +12,14 @@ pub invariant_of-self-2 : goal.invariant_of-self-2
 invariant_of-self-2 c =
     let old = c.self.inside.sessions.items in
     let session : Session = record { entry = c.args.entry; live = true } in
-    let all : c.push.new.self.items ≡ old ++ session ∷ [] = c.in_ok-push.ensures.items ∙ ap (λ (xs : List Session). xs ++ session ∷ []) c.reserve-2.ensures.items in
+    let all : c.append_session.new.sessions.items ≡ old ++ session ∷ [] = c.in_ok-append_session.ensures.sessions ∙ ap (λ (xs : List Session). xs ++ session ∷ []) c.make_room.ensures.sessions in
     let added = push_adds old session in
     let follows : MayIngest c.self.inside.max old c.args.entry = rw (← c.self.view_is) at c.requires.follows in
-    let count : length c.push.new.self.items ≡ length old + 1 = ap length all ∙ added.count in
+    let count : length c.append_session.new.sessions.items ≡ length old + 1 = ap length all ∙ added.count in
     let place : c.len-session.result ≡ length old = search rules in
-    let chunks : c.extend_from_slice.new.self.items ≡ chunks_in old ++ c.args.entry.fresh =
-    c.in_ok-extend_from_slice.ensures.items
-    ∙ ap (λ (xs : List NewChunk). xs ++ c.as_slice-3.result.now) (c.reserve.ensures.items ∙ c.self.invariant.chunks)
-    ∙ ap (λ (xs : List NewChunk). chunks_in old ++ xs) c.as_slice-3.ensures in
+    let chunks : c.append_session.new.chunks.items ≡ chunks_in old ++ c.args.entry.fresh =
+    c.in_ok-append_session.ensures.chunks
+    ∙ ap (λ (xs : List NewChunk). xs ++ c.args.entry.fresh) (c.make_room.ensures.chunks ∙ c.self.invariant.chunks) in
     record {
       by_name = subst (IsByName c.insert.new.self) (sym all) (index_pushed c.self.inside.by_name c.insert.new.self old c.args.entry c.self.invariant.by_name follows.free_name (subst (λ n. Updates name_cmp c.self.inside.by_name c.insert.new.self c.args.entry.name (Some n)) place c.in_ok-insert.ensures.updates));
       chunks = chunks ∙ sym (ap chunks_in all ∙ added.chunks);
@@ -30,3 +29,15 @@ invariant_of-self-2 c =
       chunk_limit = omega (arith, ap length chunks, length-append (chunks_in old) c.args.entry.fresh, follows.chunk_limit);
       short = omega (arith, count, ap live_count all, added.live, c.self.invariant.short, c.ingest_len-size.ensures.small);
     }
+
+pub returns : goal.returns
+returns c = search rules
+
+pub returns-in_err-insert : goal.returns-in_err-insert
+returns-in_err-insert c = search rules
+
+pub returns-in_err-make_room : goal.returns-in_err-make_room
+returns-in_err-make_room c = search rules
+
+pub returns-in_err-append_session : goal.returns-in_err-append_session
+returns-in_err-append_session c = search rules

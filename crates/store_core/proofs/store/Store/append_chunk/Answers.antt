@@ -1,4 +1,4 @@
-use Rattle.std.proofs.Common.{◌++◌, ◌∷◌, [], List, length, arith, ap, sym, subst, ◌∙◌, append_assoc}
+use Rattle.std.proofs.Common.{rules, ◌++◌, ◌∷◌, [], List, length, arith, ap, sym, subst, ◌∙◌, append_assoc}
 use Rattle.container_pack.specs.declared.spot.Spot.{Spot}
 use Rattle.sd_base.specs.Books.{chunks_in}
 use Rattle.sd_base.specs.declared.record.NewChunk.{NewChunk}
@@ -10,10 +10,22 @@ use Rattle.store_core.proofs.OfferLemmas.{begin-fewer}
 use Rattle.store_core.proofs.SessionLemmas.{unflushed-one_more}
 use Rattle.store_core.proofs.store.Store.append_chunk.Goals as goal
 
-pub returns-in_err-spot-clause-other_files : goal.returns-in_err-spot-clause-other_files
-returns-in_err-spot-clause-other_files g c = λ f apart.
-    c.append_chunk.ensures.other_files f (no-container _ _ _ f
-    (c.self.invariant.1.generation ∙ ap (λ (s : StoreState). s.opened.head.generation) c.self.view_is) apart)
+pub returns-in_err-spot : goal.returns-in_err-spot
+returns-in_err-spot g c = record {
+  number = search rules;
+  added = search rules;
+  refused = search rules;
+  unchanged = search rules;
+  too_many = search rules;
+  untouched = search rules;
+  packed = search rules;
+  still_packed = search rules;
+  exact = search rules;
+  other_files = λ f apart.
+      c.append_chunk.ensures.other_files f (no-container _ _ _ f
+      (c.self.invariant.1.generation ∙ ap (λ (s : StoreState). s.opened.head.generation) c.self.view_is) apart);
+  counts = search rules;
+}
 
 pub returns-clause-other_files : goal.returns-clause-other_files
 returns-clause-other_files g c = λ f apart.
@@ -67,3 +79,18 @@ returns-clause-exact g c =
     c.self.view_is c.self.invariant.1)
     (g.F.Shelf.files c.args.shelf.now) (g.F.Shelf.files c.append_chunk.new.shelf) c.args.chunk.now c.requires.not_empty
     c.in_ok-spot.spot c.in_ok-spot.ensures.spot c.in_ok-spot.ensures.ends c.append_chunk.ensures.other_files
+
+pub returns-in_err-push : goal.returns-in_err-push
+returns-in_err-push g c = search rules
+
+pub returns-in_err-push-2 : goal.returns-in_err-push-2
+returns-in_err-push-2 g c = search rules
+
+pub returns-in_err-reserve : goal.returns-in_err-reserve
+returns-in_err-reserve g c = search rules
+
+pub returns-in_err-reserve-2 : goal.returns-in_err-reserve-2
+returns-in_err-reserve-2 g c = search rules
+
+pub returns-then-number-ge-MAX_CHUNKS : goal.returns-then-number-ge-MAX_CHUNKS
+returns-then-number-ge-MAX_CHUNKS g c = search rules

@@ -13,6 +13,7 @@ use Rattle.store_core.specs.Recipes.{IsInOrder}
 use Rattle.store_core.specs.StoreStates.{StoreState, chunks_of_store}
 use Rattle.store_core.proofs.CommitLemmas.{room-in}
 use Rattle.store_core.proofs.CountLemmas.{committed-counted, counted-room, reserved-counted, reserved-known}
+use Rattle.store_core.proofs.Passing.{counts-as, counts-none, edge-failed, memory-unfailed}
 use Rattle.store_core.proofs.SessionLemmas.{nothing-committed, placed-committed, session-follows, session-within, committed-unflushed, offered-flushed}
 use Rattle.store_core.proofs.store.Store.commit_session.Goals as goal
 
@@ -145,3 +146,23 @@ returns-clause-flushed g c =
     c.self.view_is c.self.invariant.2)
     (subst (λ (s : StoreState). AreFlushed s.opened.head.generation (IsUnflushed inside.packer) loose)
     c.self.view_is c.in_ok-commit_bytes.ensures.flushed)
+
+pub returns-in_err-session_record-clause-counts : goal.returns-in_err-session_record-clause-counts
+returns-in_err-session_record-clause-counts g c = counts-none (memory-unfailed c.from_residual.result c.from_residual.ensures.1)
+
+pub returns-in_err-bytes-clause-counts : goal.returns-in_err-bytes-clause-counts
+returns-in_err-bytes-clause-counts g c = counts-none (memory-unfailed c.from_residual-in_err-bytes.result c.from_residual-in_err-bytes.ensures.1)
+
+pub returns-in_err-reserve-clause-counts : goal.returns-in_err-reserve-clause-counts
+returns-in_err-reserve-clause-counts g c = counts-none (memory-unfailed c.from_residual-in_err-reserve.result c.from_residual-in_err-reserve.ensures.1)
+
+pub returns-in_err-add-clause-counts : goal.returns-in_err-add-clause-counts
+returns-in_err-add-clause-counts g c = counts-none (memory-unfailed c.from_residual-in_err-add.result c.from_residual-in_err-add.ensures.1)
+
+pub returns-in_err-commit_bytes-clause-counts : goal.returns-in_err-commit_bytes-clause-counts
+returns-in_err-commit_bytes-clause-counts g c = counts-as
+    (edge-failed c.in_err-commit_bytes.field-0.0 c.from_residual-in_err-commit_bytes.result c.from_residual-in_err-commit_bytes.ensures.1)
+    c.in_err-commit_bytes.ensures.counts
+
+pub returns-clause-counts : goal.returns-clause-counts
+returns-clause-counts g c = counts-as (λ is. absurd cc) c.commit_bytes.ensures.counts

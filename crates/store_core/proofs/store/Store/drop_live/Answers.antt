@@ -5,6 +5,7 @@ use Rattle.sd_base.specs.Books.{BookState, chunks_in, is_live}
 use Rattle.store_core.specs.Counting.{AreCounted}
 use Rattle.store_core.specs.StoreStates.{StoreState}
 use Rattle.store_core.proofs.DropLemmas.{placed-left}
+use Rattle.store_core.proofs.Passing.{counts-as, counts-none, edge-failed, memory-unfailed}
 use Rattle.store_core.proofs.SessionLemmas.{committed-unflushed, nothing-committed}
 use Rattle.store_core.proofs.store.Store.drop_live.Goals as goal
 
@@ -44,3 +45,17 @@ invariant_of-self-2 g c =
           c.commit_bytes.new.packer inside.index placed none,
       subst (λ own. AreCounted own c.uncount-places.new.counts) (sym sessions) c.uncount-places.ensures.counted,
     )
+
+pub returns-in_err-bytes-clause-counts : goal.returns-in_err-bytes-clause-counts
+returns-in_err-bytes-clause-counts g c = counts-none (memory-unfailed c.from_residual.result c.from_residual.ensures.1)
+
+pub returns-in_err-add-clause-counts : goal.returns-in_err-add-clause-counts
+returns-in_err-add-clause-counts g c = counts-none (memory-unfailed c.from_residual-in_err-add.result c.from_residual-in_err-add.ensures.1)
+
+pub returns-in_err-commit_bytes-clause-counts : goal.returns-in_err-commit_bytes-clause-counts
+returns-in_err-commit_bytes-clause-counts g c = counts-as
+    (edge-failed c.in_err-commit_bytes.field-0.0 c.from_residual-in_err-commit_bytes.result c.from_residual-in_err-commit_bytes.ensures.1)
+    c.in_err-commit_bytes.ensures.counts
+
+pub returns-clause-counts : goal.returns-clause-counts
+returns-clause-counts g c = counts-as (λ is. absurd cc) c.commit_bytes.ensures.counts

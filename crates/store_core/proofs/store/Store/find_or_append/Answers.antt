@@ -1,4 +1,4 @@
-use Rattle.std.proofs.Common.{ℕ, length, subst}
+use Rattle.std.proofs.Common.{rules, ℕ, length, subst}
 use Rattle.std.specs.Prelude.{IfSome, MatchOption, Option}
 use Rattle.store_core.specs.Offers.{IsLeastSame, IsNewBelow}
 use Rattle.store_core.specs.StoreStates.{chunks_of_store}
@@ -7,53 +7,64 @@ use Rattle.store_core.proofs.OfferSteps.{offered-found, offered-new, packed-pass
 use Rattle.store_core.proofs.store.Store.find_or_append.Given as given
 use Rattle.store_core.proofs.store.Store.find_or_append.Goals as goal
 
-pub returns-in-Some-clause-stands : goal.returns-in-Some-clause-stands
-returns-in-Some-clause-stands g c = λ state offered.
-    let store = c.args.self.now in
-    offered-found g.N.Namer.name_of store c.find_chunk.new.self (g.F.Shelf.files c.args.shelf.now)
-    (g.F.Shelf.files c.find_chunk.new.shelf) c.args.chunk.now c.find_chunk.ensures.some state offered c.in-Some.number
-    c.find_chunk.ensures.unchanged c.find_chunk.ensures.reads.same_files
-    (subst (λ (found : Option ℕ). IfSome (g.F.Shelf.files c.args.shelf.now) (λ files. MatchOption found
-    (IsNewBelow g.N.Namer.name_of files store c.args.chunk.now (length (chunks_of_store store)))
-    (IsLeastSame g.N.Namer.name_of files store c.args.chunk.now))) c.in-Some.is c.in_ok-number.ensures.least)
-
-pub returns-clause-stands : goal.returns-clause-stands
-returns-clause-stands g c = λ state offered.
-    let store = c.args.self.now in
-    offered-new g.N.Namer.name_of store c.find_chunk.new.self c.append_chunk.new.self (g.F.Shelf.files c.args.shelf.now)
-    (g.F.Shelf.files c.find_chunk.new.shelf) (g.F.Shelf.files c.append_chunk.new.shelf) c.args.chunk.now c.args.name.now
-    c.requires.named c.find_chunk.ensures.unchanged c.find_chunk.ensures.reads.same_files c.find_chunk.ensures.some state offered
-    c.append_chunk.result c.append_chunk.ensures.number c.append_chunk.ensures.added c.append_chunk.ensures.packed c.append_chunk.ensures.other_files
-    (subst (λ (found : Option ℕ). IfSome (g.F.Shelf.files c.args.shelf.now) (λ files. MatchOption found
-    (IsNewBelow g.N.Namer.name_of files store c.args.chunk.now (length (chunks_of_store store)))
-    (IsLeastSame g.N.Namer.name_of files store c.args.chunk.now))) c.in_default.is c.in_ok-number.ensures.least)
-
-pub returns-clause-packed : goal.returns-clause-packed
-returns-clause-packed g c =
-    packed-passed c.args.self.now c.find_chunk.new.self (g.F.Shelf.files c.args.shelf.now) (g.F.Shelf.files c.find_chunk.new.shelf)
-    (g.F.Shelf.files c.append_chunk.new.shelf) c.args.chunk.now c.find_chunk.ensures.unchanged c.find_chunk.ensures.reads.same_files
-    c.append_chunk.result c.append_chunk.ensures.packed
+pub returns-in-Some : goal.returns-in-Some
+returns-in-Some g c = record {
+  some = search rules;
+  kept = search rules;
+  damage = search rules;
+  refused = search rules;
+  found = search rules;
+  new = search rules;
+  damaged = search rules;
+  too_many = search rules;
+  found_unchanged = search rules;
+  unchanged = search rules;
+  packed = search rules;
+  other_files = search rules;
+  counts = search rules;
+  stands = λ state offered.
+      let store = c.args.self.now in
+      offered-found g.N.Namer.name_of store c.find_chunk.new.self (g.F.Shelf.files c.args.shelf.now)
+      (g.F.Shelf.files c.find_chunk.new.shelf) c.args.chunk.now c.find_chunk.ensures.some state offered c.in-Some.number
+      c.find_chunk.ensures.unchanged c.find_chunk.ensures.reads.same_files
+      (subst (λ (found : Option ℕ). IfSome (g.F.Shelf.files c.args.shelf.now) (λ files. MatchOption found
+      (IsNewBelow g.N.Namer.name_of files store c.args.chunk.now (length (chunks_of_store store)))
+      (IsLeastSame g.N.Namer.name_of files store c.args.chunk.now))) c.in-Some.is c.in_ok-number.ensures.least);
+  held = λ state offered.
+      held-same g.N.Namer.name_of c.args.self.now state offered (g.F.Shelf.files c.args.shelf.now)
+      (g.F.Shelf.files c.find_chunk.new.shelf) c.find_chunk.ensures.reads.same_files;
+  clean = λ state offered.
+      let store = c.args.self.now in
+      clean-found g.N.Namer.name_of store state offered c.args.chunk.now c.find_chunk.ensures.some c.in-Some.number
+      (g.F.Shelf.files c.args.shelf.now) (g.F.Shelf.files c.find_chunk.new.shelf) c.find_chunk.ensures.reads.same_files
+      (subst (λ (found : Option ℕ). IfSome (g.F.Shelf.files c.args.shelf.now) (λ files. MatchOption found
+      (IsNewBelow g.N.Namer.name_of files store c.args.chunk.now (length (chunks_of_store store)))
+      (IsLeastSame g.N.Namer.name_of files store c.args.chunk.now))) c.in-Some.is c.in_ok-number.ensures.least);
+}
 
 -- ---- what is left of the files
 
-pub returns-in_err-number-clause-held : goal.returns-in_err-number-clause-held
-returns-in_err-number-clause-held g c = λ state offered.
-    held-same g.N.Namer.name_of c.args.self.now state offered (g.F.Shelf.files c.args.shelf.now)
-    (g.F.Shelf.files c.find_chunk.new.shelf) c.find_chunk.ensures.reads.same_files
-
-pub returns-in-Some-clause-held : goal.returns-in-Some-clause-held
-returns-in-Some-clause-held g c = λ state offered.
-    held-same g.N.Namer.name_of c.args.self.now state offered (g.F.Shelf.files c.args.shelf.now)
-    (g.F.Shelf.files c.find_chunk.new.shelf) c.find_chunk.ensures.reads.same_files
-
-pub returns-in-Some-clause-clean : goal.returns-in-Some-clause-clean
-returns-in-Some-clause-clean g c = λ state offered.
-    let store = c.args.self.now in
-    clean-found g.N.Namer.name_of store state offered c.args.chunk.now c.find_chunk.ensures.some c.in-Some.number
-    (g.F.Shelf.files c.args.shelf.now) (g.F.Shelf.files c.find_chunk.new.shelf) c.find_chunk.ensures.reads.same_files
-    (subst (λ (found : Option ℕ). IfSome (g.F.Shelf.files c.args.shelf.now) (λ files. MatchOption found
-    (IsNewBelow g.N.Namer.name_of files store c.args.chunk.now (length (chunks_of_store store)))
-    (IsLeastSame g.N.Namer.name_of files store c.args.chunk.now))) c.in-Some.is c.in_ok-number.ensures.least)
+pub returns-in_err-number : goal.returns-in_err-number
+returns-in_err-number g c = record {
+  some = search rules;
+  kept = search rules;
+  damage = search rules;
+  refused = search rules;
+  found = search rules;
+  new = search rules;
+  damaged = search rules;
+  too_many = search rules;
+  found_unchanged = search rules;
+  unchanged = search rules;
+  packed = search rules;
+  other_files = search rules;
+  counts = search rules;
+  stands = search rules;
+  held = λ state offered.
+      held-same g.N.Namer.name_of c.args.self.now state offered (g.F.Shelf.files c.args.shelf.now)
+      (g.F.Shelf.files c.find_chunk.new.shelf) c.find_chunk.ensures.reads.same_files;
+  clean = search rules;
+}
 
 -- what the append says, of the store and its files before the search
 others-of : (g : given.Over) (c : goal.After-append_chunk g) →
@@ -63,25 +74,50 @@ others-of g c =
     (g.F.Shelf.files c.find_chunk.new.shelf) (g.F.Shelf.files c.append_chunk.new.shelf) c.find_chunk.ensures.unchanged
     c.find_chunk.ensures.reads.same_files c.append_chunk.ensures.other_files
 
-pub returns-clause-held : goal.returns-clause-held
-returns-clause-held g c = λ state offered.
-    let old = g.F.Shelf.files c.args.shelf.now in
-    let now = g.F.Shelf.files c.append_chunk.new.shelf in
-    held-after g.N.Namer.name_of c.args.self.now state offered old now
-    (as-before StillPacked c.args.self.now c.find_chunk.new.self old (g.F.Shelf.files c.find_chunk.new.shelf) now
-    c.find_chunk.ensures.unchanged c.find_chunk.ensures.reads.same_files c.append_chunk.ensures.still_packed)
-    (others-of g c)
-
-pub returns-clause-clean : goal.returns-clause-clean
-returns-clause-clean g c = λ state offered.
-    let store = c.args.self.now in
-    let old = g.F.Shelf.files c.args.shelf.now in
-    let now = g.F.Shelf.files c.append_chunk.new.shelf in
-    clean-new g.N.Namer.name_of store state offered c.args.chunk.now c.find_chunk.ensures.some c.append_chunk.result old now
-    (subst (λ (found : Option ℕ). IfSome old (λ files. MatchOption found
-    (IsNewBelow g.N.Namer.name_of files store c.args.chunk.now (length (chunks_of_store store)))
-    (IsLeastSame g.N.Namer.name_of files store c.args.chunk.now))) c.in_default.is c.in_ok-number.ensures.least)
-    (as-before (PacksOneMore c.args.chunk.now c.append_chunk.result) store c.find_chunk.new.self old
-    (g.F.Shelf.files c.find_chunk.new.shelf) now c.find_chunk.ensures.unchanged c.find_chunk.ensures.reads.same_files
-    c.append_chunk.ensures.exact)
-    (others-of g c)
+pub returns : goal.returns
+returns g c = record {
+  some = search rules;
+  kept = search rules;
+  damage = search rules;
+  refused = search rules;
+  found = search rules;
+  new = search rules;
+  damaged = search rules;
+  too_many = search rules;
+  found_unchanged = search rules;
+  unchanged = search rules;
+  packed =
+      packed-passed c.args.self.now c.find_chunk.new.self (g.F.Shelf.files c.args.shelf.now) (g.F.Shelf.files c.find_chunk.new.shelf)
+      (g.F.Shelf.files c.append_chunk.new.shelf) c.args.chunk.now c.find_chunk.ensures.unchanged c.find_chunk.ensures.reads.same_files
+      c.append_chunk.result c.append_chunk.ensures.packed;
+  other_files = search rules;
+  counts = search rules;
+  stands = λ state offered.
+      let store = c.args.self.now in
+      offered-new g.N.Namer.name_of store c.find_chunk.new.self c.append_chunk.new.self (g.F.Shelf.files c.args.shelf.now)
+      (g.F.Shelf.files c.find_chunk.new.shelf) (g.F.Shelf.files c.append_chunk.new.shelf) c.args.chunk.now c.args.name.now
+      c.requires.named c.find_chunk.ensures.unchanged c.find_chunk.ensures.reads.same_files c.find_chunk.ensures.some state offered
+      c.append_chunk.result c.append_chunk.ensures.number c.append_chunk.ensures.added c.append_chunk.ensures.packed c.append_chunk.ensures.other_files
+      (subst (λ (found : Option ℕ). IfSome (g.F.Shelf.files c.args.shelf.now) (λ files. MatchOption found
+      (IsNewBelow g.N.Namer.name_of files store c.args.chunk.now (length (chunks_of_store store)))
+      (IsLeastSame g.N.Namer.name_of files store c.args.chunk.now))) c.in_default.is c.in_ok-number.ensures.least);
+  held = λ state offered.
+      let old = g.F.Shelf.files c.args.shelf.now in
+      let now = g.F.Shelf.files c.append_chunk.new.shelf in
+      held-after g.N.Namer.name_of c.args.self.now state offered old now
+      (as-before StillPacked c.args.self.now c.find_chunk.new.self old (g.F.Shelf.files c.find_chunk.new.shelf) now
+      c.find_chunk.ensures.unchanged c.find_chunk.ensures.reads.same_files c.append_chunk.ensures.still_packed)
+      (others-of g c);
+  clean = λ state offered.
+      let store = c.args.self.now in
+      let old = g.F.Shelf.files c.args.shelf.now in
+      let now = g.F.Shelf.files c.append_chunk.new.shelf in
+      clean-new g.N.Namer.name_of store state offered c.args.chunk.now c.find_chunk.ensures.some c.append_chunk.result old now
+      (subst (λ (found : Option ℕ). IfSome old (λ files. MatchOption found
+      (IsNewBelow g.N.Namer.name_of files store c.args.chunk.now (length (chunks_of_store store)))
+      (IsLeastSame g.N.Namer.name_of files store c.args.chunk.now))) c.in_default.is c.in_ok-number.ensures.least)
+      (as-before (PacksOneMore c.args.chunk.now c.append_chunk.result) store c.find_chunk.new.self old
+      (g.F.Shelf.files c.find_chunk.new.shelf) now c.find_chunk.ensures.unchanged c.find_chunk.ensures.reads.same_files
+      c.append_chunk.ensures.exact)
+      (others-of g c);
+}

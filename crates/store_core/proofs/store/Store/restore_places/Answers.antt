@@ -1,6 +1,7 @@
 use Rattle.std.proofs.Common.{length, rules, subst}
 use Rattle.edge_traits.specs.Sink.{Appends, AppendsPrefix}
 use Rattle.store_core.specs.StoreStates.{chunks_of_store}
+use Rattle.store_core.proofs.Passing.{counts-as, counts-none, counts-then, fault-passed, memory-unfailed, memory-unsunk, reads-as, reads-none, reads-then, sink-unfailed}
 use Rattle.store_core.proofs.RestoreLemmas.{all-below, at-err, end-part, end-restored, none-part, on-err, on-ok, place-damaged, place-held, place-part, restores-passed}
 use Rattle.store_core.proofs.StoreLemmas.{damaged-passed, same-told}
 use Rattle.store_core.proofs.store.Store.restore_places.Goals as goal
@@ -48,8 +49,8 @@ pub loop-number-preserved : goal.loop-number-preserved
 loop-number-preserved g c = record {
   unchanged = search rules;
   nothing = search rules;
-  reads = search rules;
-  counts = search rules;
+  reads = reads-then c.loop-number.invariant.reads (reads-as (λ never. absurd never) c.hold_back.ensures.reads);
+  counts = counts-then c.loop-number.invariant.counts (counts-as (λ never. absurd never) c.hold_back.ensures.counts);
   held =
       let told = g.F.Shelf.files c.args.shelf.now in
       let now = g.F.Shelf.files c.loop-number.shelf in
@@ -79,3 +80,30 @@ returns-clause-prefix g c =
     c.loop-number.held.items c.loop-number.number-index (g.K.Sink.written c.args.sink.now) before after
     c.loop-number-test.false c.loop-number.invariant.held (subst (AppendsPrefix before after) c.deref.ensures.value prefix))
     c.write_piece.ensures.prefix
+
+pub returns-in_err-held-clause-reads : goal.returns-in_err-held-clause-reads
+returns-in_err-held-clause-reads g c = reads-none (memory-unfailed c.from_residual.result c.from_residual.ensures.1)
+
+pub returns-in_err-held-clause-counts : goal.returns-in_err-held-clause-counts
+returns-in_err-held-clause-counts g c = counts-none (memory-unsunk c.from_residual.result c.from_residual.ensures.1)
+
+pub returns-in_err-hold_back-clause-reads : goal.returns-in_err-hold_back-clause-reads
+returns-in_err-hold_back-clause-reads g c = reads-then c.loop-number.invariant.reads
+    (reads-as (fault-passed c.in_err-hold_back.field-0.0 c.from_residual-in_err-hold_back.result c.from_residual-in_err-hold_back.ensures.1)
+    c.in_err-hold_back.ensures.reads)
+
+pub returns-in_err-hold_back-clause-counts : goal.returns-in_err-hold_back-clause-counts
+returns-in_err-hold_back-clause-counts g c = counts-then c.loop-number.invariant.counts
+    (counts-as (fault-passed c.in_err-hold_back.field-0.0 c.from_residual-in_err-hold_back.result c.from_residual-in_err-hold_back.ensures.1)
+    c.in_err-hold_back.ensures.counts)
+
+pub returns-in_err-hold_back-clause-kind : goal.returns-in_err-hold_back-clause-kind
+returns-in_err-hold_back-clause-kind g c = λ damage is.
+    c.in_err-hold_back.ensures.kind damage
+    (fault-passed c.in_err-hold_back.field-0.0 c.from_residual-in_err-hold_back.result c.from_residual-in_err-hold_back.ensures.1 is)
+
+pub returns-clause-reads : goal.returns-clause-reads
+returns-clause-reads g c = reads-as (sink-unfailed c.write_piece.result c.write_piece.ensures.refused) c.loop-number.invariant.reads
+
+pub returns-clause-counts : goal.returns-clause-counts
+returns-clause-counts g c = counts-then c.loop-number.invariant.counts c.write_piece.ensures.counts
