@@ -2,118 +2,73 @@ use crate::maps::{has, map_of, positions_are};
 use candidate_map::PlainMap;
 use std::alloc::Global;
 
-// Whether this is the next position in a map of these positions, which has 301 bits.
-fn next_is(alloc: Global, positions: &[u32], from: u32, next: Option<u32>) -> bool {
-    match map_of(alloc, positions) {
-        Some(map) => map.bits() == 301 && map.next_from(from) == next,
-        None => false,
-    }
-}
-
-static NEXT_FROM: [(&[u32], u32, Option<u32>); 7] = [
-    (&[], 0, None),
-    (&[100], 0, Some(100)),
-    (&[100], 100, Some(100)),
-    (&[100], 101, None),
-    (&[100], 300, None),
-    (&[100], 301, None),
-    (&[100], u32::MAX, None),
-];
-
-#[test]
-fn next_from_finds_a_position_up_to_itself_and_nothing_above_it(rt: HostRuntime) {
-    for &(positions, from, next) in &NEXT_FROM {
-        assert!(rt; next_is(rt.alloc(), positions, from, next), "from {from}");
-    }
-}
-
-// Whether this is the next position up to `last` in a map of position 100 alone.
-fn next_within_is(alloc: Global, from: u32, last: u32, next: Option<u32>) -> bool {
-    match map_of(alloc, &[100]) {
-        Some(map) => map.next_within(from, last) == next,
-        None => false,
-    }
-}
-
-static NEXT_WITHIN: [(u32, u32, Option<u32>); 7] = [
-    (0, 99, None),
-    (0, 100, Some(100)),
-    (0, u32::MAX, Some(100)),
-    (100, 100, Some(100)),
-    (101, 300, None),
-    (101, 100, None),
-    (u32::MAX, 0, None),
-];
-
-#[test]
-fn next_within_finds_a_position_up_to_the_last_and_no_further(rt: HostRuntime) {
-    for &(from, last, next) in &NEXT_WITHIN {
-        assert!(rt;
-            next_within_is(rt.alloc(), from, last, next),
-            "from {from} to {last}"
-        );
-    }
+// Whether this is the next position from one position up to another, in a map of these positions.
+// If there is one position, it is a member if it is the next. If there is no end, the search
+// without one finds the same.
+fn next_is(
+    alloc: Global,
+    positions: &[u32],
+    from: u32,
+    last: u32,
+    next: Option<u32>,
+) -> Option<bool> {
+    let map = map_of(alloc, positions)?;
+    Some(
+        map.bits() == 301
+            && map.next_within(from, last) == next
+            && (last != from || has(&map, from) == next.is_some())
+            && (last != u32::MAX || map.next_from(from) == next),
+    )
 }
 
 // Positions on both sides of the edges of words.
-const EDGES: [u32; 4] = [63, 64, 127, 300];
+const EDGES: &[u32] = &[63, 64, 127, 300];
 
-// Whether a position is a member of a map of the positions at the edges, or not.
-fn membership_is(alloc: Global, p: u32, member: bool) -> bool {
-    match map_of(alloc, &EDGES) {
-        Some(map) => has(&map, p) == member,
-        None => false,
-    }
-}
+const END: u32 = u32::MAX;
 
-static MEMBERS: [(u32, bool); 10] = [
-    (0, false),
-    (62, false),
-    (63, true),
-    (64, true),
-    (65, false),
-    (126, false),
-    (127, true),
-    (128, false),
-    (299, false),
-    (300, true),
+static NEXT: [(&[u32], u32, u32, Option<u32>); 30] = [
+    (&[], 0, END, None),
+    // up to the position itself, and nothing above it
+    (&[100], 0, END, Some(100)),
+    (&[100], 100, END, Some(100)),
+    (&[100], 101, END, None),
+    (&[100], 300, END, None),
+    (&[100], 301, END, None),
+    (&[100], END, END, None),
+    // up to the last, and no further
+    (&[100], 0, 99, None),
+    (&[100], 0, 100, Some(100)),
+    (&[100], 100, 100, Some(100)),
+    (&[100], 101, 300, None),
+    (&[100], 101, 100, None),
+    (&[100], END, 0, None),
+    // members at the edges of words
+    (EDGES, 0, 0, None),
+    (EDGES, 62, 62, None),
+    (EDGES, 63, 63, Some(63)),
+    (EDGES, 64, 64, Some(64)),
+    (EDGES, 65, 65, None),
+    (EDGES, 126, 126, None),
+    (EDGES, 127, 127, Some(127)),
+    (EDGES, 128, 128, None),
+    (EDGES, 299, 299, None),
+    (EDGES, 300, 300, Some(300)),
+    // found at the edges of words
+    (EDGES, 0, END, Some(63)),
+    (EDGES, 63, END, Some(63)),
+    (EDGES, 64, END, Some(64)),
+    (EDGES, 65, END, Some(127)),
+    (EDGES, 128, END, Some(300)),
+    (EDGES, 300, END, Some(300)),
+    (EDGES, 301, END, None),
 ];
 
 #[test]
-fn positions_at_the_edges_of_words_are_members(rt: HostRuntime) {
-    for &(p, member) in &MEMBERS {
-        assert!(rt; membership_is(rt.alloc(), p, member), "at {p}");
+fn the_next_position_is_found_up_to_the_last_and_at_the_edges_of_words(rt: HostRuntime) {
+    for (row, &(positions, from, last, next)) in NEXT.iter().enumerate() {
+        let right = next_is(rt.alloc(), positions, from, last, next);
+        assert!(rt; right == Some(true), "row {row}");
     }
-}
-
-static NEXT_OF_EDGES: [(u32, Option<u32>); 7] = [
-    (0, Some(63)),
-    (63, Some(63)),
-    (64, Some(64)),
-    (65, Some(127)),
-    (128, Some(300)),
-    (300, Some(300)),
-    (301, None),
-];
-
-#[test]
-fn positions_at_the_edges_of_words_are_found(rt: HostRuntime) {
-    for &(from, next) in &NEXT_OF_EDGES {
-        assert!(rt; next_is(rt.alloc(), &EDGES, from, next), "from {from}");
-    }
-}
-
-// Whether a map of no bits has no position.
-fn none_is_empty(alloc: Global) -> bool {
-    match PlainMap::new(alloc, 0) {
-        Ok(map) => map.bits() == 0 && map.next_from(0).is_none(),
-        Err(_) => false,
-    }
-}
-
-#[test]
-fn a_map_of_no_bits_has_no_position(rt: HostRuntime) {
-    assert!(rt; none_is_empty(rt.alloc()));
 }
 
 // Adds the bits of a mask at a word that lies whole in the map.
@@ -124,42 +79,28 @@ fn add_word(map: &mut PlainMap, word: u32, mask: u64) {
     }
 }
 
-// Whether the bits of two words are added to a map of one position.
-fn words_are_added(alloc: Global) -> bool {
-    match map_of(alloc, &[100]) {
-        Some(mut map) => {
-            add_word(&mut map, 1, 0x8000_0000_0000_0001);
-            add_word(&mut map, 3, 2);
-            positions_are(&map, &[64, 100, 127, 193])
-        }
-        None => false,
-    }
-}
-
-#[test]
-fn a_word_adds_its_bits_to_those_of_the_map(rt: HostRuntime) {
-    assert!(rt; words_are_added(rt.alloc()));
-}
-
-// Adds another map, if it has as many bits.
-fn add_map(map: &mut PlainMap, other: &PlainMap) {
+// Whether a map of no bits has no position, and a map of two positions takes the bits of two words
+// and the positions of another map, which keeps its own.
+fn positions_are_added(alloc: Global) -> Option<bool> {
+    let none = PlainMap::new(alloc, 0).ok()?;
+    let mut map = map_of(alloc, &[1, 100])?;
+    add_word(&mut map, 1, 0x8000_0000_0000_0001);
+    add_word(&mut map, 3, 2);
+    let has_words = positions_are(&map, &[1, 64, 100, 127, 193]);
+    let other = map_of(alloc, &[100, 101, 300])?;
     if map.bits() == other.bits() {
-        map.or_map(other);
+        map.or_map(&other);
     }
-}
-
-// Whether a map of two positions takes three of another, which keeps them.
-fn positions_are_added(alloc: Global) -> bool {
-    match (map_of(alloc, &[1, 100]), map_of(alloc, &[100, 101, 300])) {
-        (Some(mut map), Some(other)) => {
-            add_map(&mut map, &other);
-            positions_are(&map, &[1, 100, 101, 300]) && positions_are(&other, &[100, 101, 300])
-        }
-        _ => false,
-    }
+    Some(
+        none.bits() == 0
+            && none.next_from(0).is_none()
+            && has_words
+            && positions_are(&map, &[1, 64, 100, 101, 127, 193, 300])
+            && positions_are(&other, &[100, 101, 300]),
+    )
 }
 
 #[test]
-fn a_map_adds_its_positions_to_those_of_another(rt: HostRuntime) {
-    assert!(rt; positions_are_added(rt.alloc()));
+fn words_and_maps_add_their_positions_to_those_of_a_map(rt: HostRuntime) {
+    assert!(rt; positions_are_added(rt.alloc()) == Some(true));
 }

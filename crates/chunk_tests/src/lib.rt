@@ -9,7 +9,9 @@ mod book;
 #[cfg(test)]
 mod cuts;
 #[cfg(test)]
-mod digits;
+mod drawn;
+#[cfg(test)]
+mod gates;
 #[cfg(test)]
 mod leaders;
 #[cfg(test)]
@@ -18,8 +20,6 @@ mod ledger;
 mod maps;
 #[cfg(test)]
 mod naming;
-#[cfg(test)]
-mod next_cut;
 #[cfg(test)]
 mod params;
 #[cfg(test)]

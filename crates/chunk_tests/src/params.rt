@@ -28,11 +28,8 @@ static CASES: [(u64, u32, u32, u32, u32, Option<BadParams>); 20] = [
 
 #[test]
 fn the_first_number_out_of_its_range_is_named(rt: HostRuntime) {
-    for &(polynomial, bits, target, min, max, want) in &CASES {
+    for (row, &(polynomial, bits, target, min, max, want)) in CASES.iter().enumerate() {
         let found = Params::new(polynomial, bits, target, min, max).err();
-        assert!(rt;
-            found == want,
-            "at {polynomial} {bits} {target} {min} {max}"
-        );
+        assert!(rt; found == want, "row {row}");
     }
 }

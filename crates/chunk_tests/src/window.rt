@@ -3,10 +3,6 @@ ghost use Rattle.std.specs.Prelude.{◌≡◌, slice_index};
 use rabin_window::{Tables, Window};
 use sd_base::Params;
 
-// The parameters of degree 63 under which the windows below are worked out by hand: 2^63 is 1
-// modulo the polynomial, so the bit at place k counts at place k modulo 63.
-const POLYNOMIAL: u64 = 0x8000_0000_0000_0001;
-
 // 48 bytes, all the same except the first and the last. The length is written out, so that another
 // length of a window is refused here.
 fn window_of(first: u8, between: u8, last: u8) -> [u8; 48]
@@ -18,9 +14,10 @@ fn window_of(first: u8, between: u8, last: u8) -> [u8; 48]
     bytes
 }
 
-// The parameters of that polynomial, with the target 1.
+// The parameters of degree 63 under which the windows below are worked out by hand: 2^63 is 1
+// modulo the polynomial, so the bit at place k counts at place k modulo 63. The target is 1.
 fn params() -> Option<Params> {
-    Params::new(POLYNOMIAL, 13, 1, 48, 48).ok()
+    Params::new(0x8000_0000_0000_0001, 13, 1, 48, 48).ok()
 }
 
 // The fingerprint of a window, and whether it is a match.
@@ -28,20 +25,6 @@ fn value_of(bytes: &[u8; 48]) -> Option<(u64, bool)> {
     let params = params()?;
     let window = Window::start(&Tables::new(&params), bytes);
     Some((window.value(), window.is_match(&params)))
-}
-
-// The window whose last byte is 1 is the polynomial 1. The one whose first byte is 1 is the power
-// 376, which is five times 63 and 61. Of 384 ones the places 0 to 5 come seven times, and all
-// others six times.
-#[test]
-fn fingerprints_are_those_worked_out_by_hand(rt: HostRuntime) {
-    for (bytes, want) in [
-        (window_of(0, 0, 1), 1),
-        (window_of(1, 0, 0), 2_305_843_009_213_693_952),
-        (window_of(255, 255, 255), 63),
-    ] {
-        assert!(rt; value_of(&bytes) == Some((want, want == 1)), "{want}");
-    }
 }
 
 // The same after a zero byte is slid into the window whose last byte is 1.
@@ -53,8 +36,14 @@ fn value_after_a_slide() -> Option<(u64, bool)> {
     Some((window.value(), window.is_match(&params)))
 }
 
-// A zero byte appended to the polynomial 1 makes it the power 8.
+// The window whose last byte is 1 is the polynomial 1, and a zero byte appended to it makes it the
+// power 8. The one whose first byte is 1 is the power 376, which is five times 63 and 61. Of 384
+// ones the places 0 to 5 come seven times, and all others six times.
 #[test]
-fn sliding_in_a_zero_byte_multiplies_by_256(rt: HostRuntime) {
+fn fingerprints_are_those_worked_out_by_hand(rt: HostRuntime) {
+    let first = value_of(&window_of(1, 0, 0));
+    assert!(rt; value_of(&window_of(0, 0, 1)) == Some((1, true)));
     assert!(rt; value_after_a_slide() == Some((256, false)));
+    assert!(rt; first == Some((2_305_843_009_213_693_952, false)));
+    assert!(rt; value_of(&window_of(255, 255, 255)) == Some((63, false)));
 }
