@@ -1,6 +1,6 @@
 use crate::records::{
-    A, BAD, Body, CHUNKS_OF_A, SHORT, Z8, append_sealed, flip, is_session_a, sealed, step_of,
-    written_again,
+    A, Body, CHUNKS_OF_A, Seen, Z8, append_sealed, flip, has_this_spelling, is_session_a, sealed,
+    step_of,
 };
 use sd_base::{Damage, IngestRecord, Name, NewChunks, Recipe, Record};
 use session_book::{Book, BookFault};
@@ -16,44 +16,65 @@ const DROP_0: Body = (b'D', &[0; 4]);
 
 const DROP_1: Body = (b'D', &[0, 0, 0, 1]);
 
+// The book of so many records, in the first bytes of those of these bodies.
+fn book_in(alloc: Global, bodies: &[Body], end: usize, records: u64) -> Option<Book> {
+    match sealed(alloc, bodies) {
+        Some(bytes) => Book::replay(alloc, bytes.get(..end).unwrap_or(b""), records, 256).ok(),
+        None => None,
+    }
+}
+
+// The live session with a name of these letters.
+fn find(book: &Book, letters: &[u8]) -> Option<u32> {
+    match Name::read(letters) {
+        Ok(name) => book.find(&name),
+        Err(_) => None,
+    }
+}
+
 // Whether a session is live and is then dropped.
 fn drop_live(book: &mut Book, session: u32) -> bool {
     book.live(session) && book.add(Record::Drop(session)).is_ok()
 }
 
-// Whether a book has sessions `a` and `b`.
-fn has_both(book: &Book, name: &Name) -> bool {
+fn has_both(book: &Book) -> bool {
     book.sessions() == 2
         && book.places() == 8
         && book.used() == 206
-        && book.find(name) == Some(0)
+        && find(book, b"a") == Some(0)
         && book.live(0)
 }
 
-// Whether a book has session `b` and a drop of session `a`, of the name given.
-fn has_b_alone(book: &Book, name: &Name) -> bool {
+fn has_b_alone(book: &Book) -> bool {
     !book.live(0)
         && book.live(1)
         && !book.live(2)
         && book.used() == 247
-        && book.find(name).is_none()
-        && book.session(0).is_some_and(is_session_a)
+        && find(book, b"a").is_none()
         && book.session(2).is_none()
-        && book.chunks() == CHUNKS_OF_A.as_slice()
+}
+
+// Whether session 0 of a book is session `a`.
+fn begins_with_a(book: &Book) -> bool {
+    match book.session(0) {
+        Some(first) => is_session_a(first) && book.chunks() == CHUNKS_OF_A.as_slice(),
+        None => false,
+    }
 }
 
 // Whether sessions `a` and `b` are replayed before the first byte of another, and `a` is dropped.
-fn two_are_replayed(alloc: Global) -> Option<bool> {
-    let mut bytes = sealed(alloc, &[A, B])?;
-    bytes.push(b'I').ok()?;
-    let mut book = Book::replay(alloc, &bytes, 2, 256).ok()?;
-    let name = Name::read(b"a").ok()?;
-    Some(has_both(&book, &name) && drop_live(&mut book, 0) && has_b_alone(&book, &name))
+fn two_are_replayed(alloc: Global) -> bool {
+    match book_in(alloc, &[A, B, A], 139 + 67 + 1, 2) {
+        Some(mut book) => {
+            has_both(&book) && drop_live(&mut book, 0) && has_b_alone(&book) && begins_with_a(&book)
+        }
+        None => false,
+    }
 }
 
 #[test]
 fn two_sessions_are_replayed_and_one_is_dropped(rt: HostRuntime) {
-    assert!(rt; two_are_replayed(rt.alloc()) == Some(true));
+    assert!(rt; two_are_replayed(rt.alloc()));
 }
 
 // Whether a session of no bytes may be added under this name, and is added.
@@ -76,23 +97,28 @@ fn comes_and_goes(alloc: Global, book: &mut Book, name: &Name, session: u32) -> 
         && drop_live(book, session)
 }
 
+fn has_a_alone(book: &Book) -> bool {
+    book.sessions() == 3
+        && book.places() == 4
+        && book.chunks().len() == 2
+        && book.used() == 139 + 2 * (51 + 41)
+}
+
 // Whether `b` comes to a book of `a` and goes, twice.
-fn b_comes_again(alloc: Global) -> Option<bool> {
-    let mut book = Book::replay(alloc, &sealed(alloc, &[A])?, 1, 256).ok()?;
-    let name = Name::read(b"b").ok()?;
-    Some(
-        comes_and_goes(alloc, &mut book, &name, 1)
-            && comes_and_goes(alloc, &mut book, &name, 2)
-            && book.sessions() == 3
-            && book.places() == 4
-            && book.chunks().len() == 2
-            && book.used() == 139 + 2 * (51 + 41),
-    )
+fn b_comes_again(alloc: Global) -> bool {
+    match (book_in(alloc, &[A], 139, 1), Name::read(b"b")) {
+        (Some(mut book), Ok(name)) => {
+            comes_and_goes(alloc, &mut book, &name, 1)
+                && comes_and_goes(alloc, &mut book, &name, 2)
+                && has_a_alone(&book)
+        }
+        _ => false,
+    }
 }
 
 #[test]
 fn a_name_is_free_again_after_its_drop(rt: HostRuntime) {
-    assert!(rt; b_comes_again(rt.alloc()) == Some(true));
+    assert!(rt; b_comes_again(rt.alloc()));
 }
 
 // How many sessions a replay returns, or its fault.
@@ -143,21 +169,33 @@ fn every_change_is_damage(alloc: Global, bytes: &mut [u8], place: usize) -> bool
     true
 }
 
-// Whether it is so at every place of three records, and a cut there is the same damage.
-fn three_are_damaged_anywhere(alloc: Global) -> Option<bool> {
-    let mut bytes = sealed(alloc, &[A, B, DROP_0])?;
+// Whether bytes that end at a place are damaged in the record in which it is.
+fn cut_is_damage(alloc: Global, bytes: &[u8], place: usize) -> bool {
+    match bytes.get(..place) {
+        Some(front) => replayed(alloc, front, 3, 256) == damage_at(place),
+        None => false,
+    }
+}
+
+fn every_place_is_damage(alloc: Global, bytes: &mut [u8]) -> bool {
     for place in 0..247usize {
-        let cut = replayed(alloc, bytes.get(..place)?, 3, 256);
-        if cut != damage_at(place) || !every_change_is_damage(alloc, &mut bytes, place) {
-            return Some(false);
+        if !cut_is_damage(alloc, bytes, place) || !every_change_is_damage(alloc, bytes, place) {
+            return false;
         }
     }
-    Some(bytes.len() == 247)
+    bytes.len() == 247
+}
+
+fn three_are_damaged_anywhere(alloc: Global) -> bool {
+    match sealed(alloc, &[A, B, DROP_0]) {
+        Some(mut bytes) => every_place_is_damage(alloc, bytes.as_mut_slice()),
+        None => false,
+    }
 }
 
 #[test]
 fn every_cut_and_every_changed_byte_is_damage(rt: HostRuntime) {
-    assert!(rt; three_are_damaged_anywhere(rt.alloc()) == Some(true));
+    assert!(rt; three_are_damaged_anywhere(rt.alloc()));
 }
 
 // Whether a record with another value of the byte at a place is no record. It is short only if the
@@ -167,27 +205,32 @@ fn every_change_is_no_record(alloc: Global, bytes: &mut [u8], place: usize) -> b
         flip(bytes, place, change);
         let seen = step_of(alloc, bytes);
         flip(bytes, place, change);
-        if seen != BAD && (seen != SHORT || place < 1 || place > 4) {
+        if seen != Seen::Bad && (seen != Seen::Short || place < 1 || place > 4) {
             return false;
         }
     }
     true
 }
 
-// Whether it is so at every place of the record of session `b`.
-fn no_change_of_b_is_a_record(alloc: Global) -> Option<bool> {
-    let mut bytes = sealed(alloc, &[B])?;
+fn no_change_is_a_record(alloc: Global, bytes: &mut [u8]) -> bool {
     for place in 0..67usize {
-        if !every_change_is_no_record(alloc, &mut bytes, place) {
-            return Some(false);
+        if !every_change_is_no_record(alloc, bytes, place) {
+            return false;
         }
     }
-    Some(step_of(alloc, &bytes) == Ok(67))
+    step_of(alloc, bytes) == Seen::Whole(67)
+}
+
+fn no_change_of_b_is_a_record(alloc: Global) -> bool {
+    match sealed(alloc, &[B]) {
+        Some(mut bytes) => no_change_is_a_record(alloc, bytes.as_mut_slice()),
+        None => false,
+    }
 }
 
 #[test]
 fn a_changed_record_is_no_record(rt: HostRuntime) {
-    assert!(rt; no_change_of_b_is_a_record(rt.alloc()) == Some(true));
+    assert!(rt; no_change_of_b_is_a_record(rt.alloc()));
 }
 
 // Session `a` again, of no bytes.
@@ -236,22 +279,19 @@ fn replays_return(
     right && replayed(alloc, bytes, 3, max) == RECORD_0
 }
 
-// The first row that is found wrong.
-fn wrong_row(alloc: Global) -> Option<usize> {
-    for (row, &(second, third, max, three, more)) in FIRST_DAMAGES.iter().enumerate() {
-        let Some(mut bytes) = sealed(alloc, &[A, second, third]) else {
-            return Some(row);
-        };
-        if !replays_return(alloc, &mut bytes, max, three, more) {
-            return Some(row);
-        }
+fn damages_are(alloc: Global, bodies: &[Body], max: u32, three: Replayed, more: Replayed) -> bool {
+    match sealed(alloc, bodies) {
+        Some(mut bytes) => replays_return(alloc, bytes.as_mut_slice(), max, three, more),
+        None => false,
     }
-    None
 }
 
 #[test]
 fn the_first_damage_after_a_session_is_returned(rt: HostRuntime) {
-    assert_eq!(rt; wrong_row(rt.alloc()), None);
+    for (row, &(second, third, max, three, more)) in FIRST_DAMAGES.iter().enumerate() {
+        let right = damages_are(rt.alloc(), &[A, second, third], max, three, more);
+        assert!(rt; right, "row {row}");
+    }
 }
 
 // The name of three letters of a number below 4096.
@@ -280,67 +320,82 @@ fn is_found(book: &Book, session: u32) -> bool {
     }
 }
 
-// The records of as many sessions of no bytes as a book may have.
-fn most(alloc: Global) -> Option<Vec<u8>> {
-    let mut bytes = Vec::new(alloc);
+// Appends the records of as many sessions of no bytes as a book may have.
+fn append_most(out: &mut Vec<u8>) -> Result<(), AllocError> {
     for session in 0..4096u32 {
-        append_empty(&mut bytes, session).ok()?;
+        append_empty(out, session)?;
     }
-    Some(bytes)
+    Ok(())
 }
 
-fn some_are_found(alloc: Global, bytes: &[u8]) -> Option<bool> {
-    let book = Book::replay(alloc, bytes, 4096, 64).ok()?;
-    Some(is_found(&book, 0) && is_found(&book, 1) && is_found(&book, 2048) && is_found(&book, 4095))
+fn some_are_found(alloc: Global, bytes: &[u8]) -> bool {
+    match Book::replay(alloc, bytes, 4096, 64) {
+        Ok(book) => {
+            is_found(&book, 0)
+                && is_found(&book, 1)
+                && is_found(&book, 2048)
+                && is_found(&book, 4095)
+        }
+        Err(_) => false,
+    }
+}
+
+// Appends the records of a drop and of one session more.
+fn append_one_more(out: &mut Vec<u8>) -> Result<(), AllocError> {
+    append_sealed(out, b'D', &[0; 4])?;
+    append_empty(out, 0)
 }
 
 // Whether sessions of these records are found, and a drop may follow, but no further session.
-fn most_are_replayed(alloc: Global) -> Option<bool> {
-    let mut bytes = most(alloc)?;
-    let are_found = some_are_found(alloc, &bytes)?;
-    append_sealed(&mut bytes, DROP_0.0, DROP_0.1).ok()?;
-    append_empty(&mut bytes, 0).ok()?;
-    Some(
-        are_found
-            && replayed(alloc, &bytes, 4097, 64) == Ok(4096)
-            && replayed(alloc, &bytes, 4098, 64) == Err(BookFault::Damaged(Damage::Record(4097))),
-    )
+fn most_are_replayed(alloc: Global) -> bool {
+    let mut bytes = Vec::new(alloc);
+    append_most(&mut bytes).is_ok()
+        && some_are_found(alloc, &bytes)
+        && append_one_more(&mut bytes).is_ok()
+        && replayed(alloc, &bytes, 4097, 64) == Ok(4096)
+        && replayed(alloc, &bytes, 4098, 64) == Err(BookFault::Damaged(Damage::Record(4097)))
 }
 
 #[test]
 fn a_book_has_4096_sessions_which_are_found_by_their_names_and_not_one_more(rt: HostRuntime) {
-    assert!(rt; most_are_replayed(rt.alloc()) == Some(true));
+    assert!(rt; most_are_replayed(rt.alloc()));
 }
 
-// The body of a session of 100,000 chunks of one byte each, with a place for each.
-fn many(alloc: Global) -> Result<Vec<u8>, AllocError> {
-    let mut body = Vec::new(alloc);
-    let count: [u8; 4] = 100_000u32.to_be_bytes();
-    body.extend_from_slice(b"\x01c")?;
-    body.extend_from_slice(&count)?;
-    body.extend_from_slice(&count)?;
+// Appends the lengths and names of 100,000 chunks of one byte each.
+fn append_chunks(out: &mut Vec<u8>) -> Result<(), AllocError> {
     for _ in 0..100_000u32 {
-        body.extend_from_slice(&[0, 0, 0, 1])?;
-        body.extend_from_slice(&Z8)?;
+        out.extend_from_slice(&[0, 0, 0, 1])?;
+        out.extend_from_slice(&Z8)?;
     }
-    body.extend_from_slice(&count)?;
-    for place in 0..100_000u32 {
-        body.extend_from_slice(&place.to_be_bytes())?;
-    }
-    Ok(body)
+    Ok(())
 }
 
-fn many_are_kept(alloc: Global) -> Option<bool> {
-    let mut bytes = Vec::new(alloc);
-    append_sealed(&mut bytes, b'I', &many(alloc).ok()?).ok()?;
-    Some(
-        replayed(alloc, &bytes, 1, 64) == Ok(1)
-            && replayed(alloc, &bytes, 2, 64) == RECORD_1
-            && written_again(alloc, &bytes)?.as_slice() == bytes.as_slice(),
-    )
+// Appends the numbers below 100,000, as entries of a recipe.
+fn append_entries(out: &mut Vec<u8>) -> Result<(), AllocError> {
+    for n in 0..100_000u32 {
+        out.extend_from_slice(&n.to_be_bytes())?;
+    }
+    Ok(())
+}
+
+// Appends the body of a session of these chunks, with a place for each: 100,000 is 0x186a0.
+fn append_many(out: &mut Vec<u8>) -> Result<(), AllocError> {
+    out.extend_from_slice(b"\x01c\0\x01\x86\xa0\0\x01\x86\xa0")?;
+    append_chunks(out)?;
+    out.extend_from_slice(b"\0\x01\x86\xa0")?;
+    append_entries(out)
+}
+
+fn many_are_kept(alloc: Global) -> bool {
+    let (mut body, mut bytes) = (Vec::new(alloc), Vec::new(alloc));
+    append_many(&mut body).is_ok()
+        && append_sealed(&mut bytes, b'I', &body).is_ok()
+        && replayed(alloc, &bytes, 1, 64) == Ok(1)
+        && replayed(alloc, &bytes, 2, 64) == RECORD_1
+        && has_this_spelling(alloc, &bytes)
 }
 
 #[test]
 fn a_session_of_100000_chunks_is_replayed_and_written(rt: HostRuntime) {
-    assert!(rt; many_are_kept(rt.alloc()) == Some(true));
+    assert!(rt; many_are_kept(rt.alloc()));
 }

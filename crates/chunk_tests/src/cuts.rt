@@ -1,4 +1,5 @@
 use crate::maps::map_of;
+use candidate_map::PlainMap;
 use cut_walk::{cuts_from, next_cut};
 use sd_base::Params;
 use std::alloc::Global;
@@ -6,28 +7,49 @@ use std::alloc::Global;
 // Where cuts are looked for: the start, how many bytes are known, and whether these are all.
 type Bounds = (u32, u32, bool);
 
-// Whether these are the cuts in a text of 300 bytes with these candidates and chunks of 64 to `max`
-// bytes, and the next cut is the first of them.
-fn cuts_are(
+// Whether this is the next cut in a map that has a bit for each known position, or there is no more
+// to cut.
+fn next_is(map: &PlainMap, params: &Params, from: Bounds, want: Option<u32>) -> bool {
+    let (start, known, at_end) = from;
+    if start < known && known < map.bits() {
+        next_cut(map, params, start, known, at_end) == want
+    } else {
+        start == known && want.is_none()
+    }
+}
+
+// The cuts in such a map.
+fn cuts_in(alloc: Global, map: &PlainMap, params: &Params, from: Bounds) -> Option<Vec<u32>> {
+    let (start, known, at_end) = from;
+    if start > known || known >= map.bits() {
+        return None;
+    }
+    cuts_from(alloc, map, params, start, known, at_end).ok()
+}
+
+// Whether these are the cuts in such a map, and the next cut is the first of them.
+fn cuts_are(alloc: Global, map: &PlainMap, params: &Params, from: Bounds, want: &[u32]) -> bool {
+    match cuts_in(alloc, map, params, from) {
+        Some(cuts) => {
+            cuts.as_slice() == want && next_is(map, params, from, want.first().copied())
+        }
+        None => false,
+    }
+}
+
+// The same in a text of 300 bytes with these candidates and chunks of 64 to `max` bytes.
+fn cuts_of_text_are(
     alloc: Global,
     max: u32,
     positions: &[u32],
     from: Bounds,
     want: &[u32],
-) -> Option<bool> {
-    let params = Params::new(0x8000_0000_0000_0001, 13, 1, 64, max).ok()?;
-    let map = map_of(alloc, positions)?;
-    let (start, known, at_end) = from;
-    if start > known || known >= map.bits() {
-        return None;
+) -> bool {
+    let params = Params::new(0x8000_0000_0000_0001, 13, 1, 64, max);
+    match (params, map_of(alloc, positions)) {
+        (Ok(params), Some(map)) => cuts_are(alloc, &map, &params, from, want),
+        _ => false,
     }
-    let next = if start < known {
-        next_cut(&map, &params, start, known, at_end)
-    } else {
-        None
-    };
-    let cuts = cuts_from(alloc, &map, &params, start, known, at_end).ok()?;
-    Some(cuts.as_slice() == want && next == want.first().copied())
 }
 
 static CUTS: [(u32, &[u32], Bounds, &[u32]); 22] = [
@@ -63,7 +85,9 @@ static CUTS: [(u32, &[u32], Bounds, &[u32]); 22] = [
 #[test]
 fn a_cut_is_at_the_next_candidate_the_maximum_or_the_end(rt: HostRuntime) {
     for (row, &(max, positions, from, want)) in CUTS.iter().enumerate() {
-        let right = cuts_are(rt.alloc(), max, positions, from, want);
-        assert!(rt; right == Some(true), "row {row}");
+        assert!(rt;
+            cuts_of_text_are(rt.alloc(), max, positions, from, want),
+            "row {row}"
+        );
     }
 }

@@ -3,7 +3,7 @@ ghost use Rattle.sd_base.specs.Cutting.{RiseWithin};
 
 use crate::gates::Watch;
 use chunk_names::{LengthNamer, Namer, Sha256Namer, hex_of, name_all};
-use sd_base::{OpenGate, Stage};
+use sd_base::Stage;
 use std::alloc::Global;
 use std::thread::Threads;
 
@@ -29,38 +29,35 @@ fn digits_are(alloc: Global, name: &[u8; 32], want: &str) -> bool {
     }
 }
 
-// Whether names are printed as their digits, that of the text of one chunk `abc` too.
-fn all_digits_are<H: Threads + Sync>(rt: &H, alloc: Global) -> Option<bool> {
-    let names = name_all(rt, alloc, &Sha256Namer, b"abc", 0, &[3], 4, 0, &OpenGate).ok()?;
-    Some(
-        names.len() == 1
-            && digits_are(alloc, names.get(0)?, OF_ABC)
-            && digits_are(alloc, &name_by_borrowed(&Sha256Namer, b"abc"), OF_ABC)
-            && digits_are(alloc, &Sha256Namer.name(b""), OF_NOTHING)
-            && digits_are(alloc, &LengthNamer.name(&[7; 64]), OF_64_BYTES),
-    )
+// Whether four names are printed as their digits.
+fn all_digits_are(alloc: Global) -> bool {
+    digits_are(alloc, &Sha256Namer.name(b""), OF_NOTHING)
+        && digits_are(alloc, &Sha256Namer.name(b"abc"), OF_ABC)
+        && digits_are(alloc, &name_by_borrowed(&Sha256Namer, b"abc"), OF_ABC)
+        && digits_are(alloc, &LengthNamer.name(&[7; 64]), OF_64_BYTES)
 }
 
 #[test]
 fn names_are_printed_as_their_64_lower_case_digits(rt: HostRuntime) {
-    assert!(rt; all_digits_are(&rt, rt.alloc()) == Some(true));
+    assert!(rt; all_digits_are(rt.alloc()));
 }
 
-// The names of chunks of `abcde`, if the gate had a call for each worker and the first 64 of them
-// had these pieces.
-fn names_of<H: Threads + Sync>(
+// Whether chunks of `abcde` have these names, and the gate had a call for each worker, of which the
+// first 64 had these pieces.
+fn names_are<H: Threads + Sync>(
     rt: &H,
     alloc: Global,
     start: u32,
     ends: &[u32],
     workers: u32,
     pieces: u64,
-) -> Option<Vec<[u8; 32]>>
+    want: &[[u8; 32]],
+) -> bool
     requires rise { RiseWithin start 5 ends.now }
     requires workers { AreWorkers workers }
 {
     let gate = Watch::new(Stage::Name, 0);
-    let names = name_all(
+    match name_all(
         rt,
         alloc,
         &Sha256Namer,
@@ -70,53 +67,53 @@ fn names_of<H: Threads + Sync>(
         workers,
         7,
         &gate,
-    )
-    .ok()?;
-    if gate.has_noted(pieces, u64::from(workers)) {
-        Some(names)
-    } else {
-        None
+    ) {
+        Ok(names) => names.as_slice() == want && gate.has_noted(pieces, u64::from(workers)),
+        Err(_) => false,
     }
 }
 
-// Whether no chunk, one and five are named so, and the chunks b, cd and e have their names.
-fn workers_name<H: Threads + Sync>(rt: &H, alloc: Global, workers: u32, pieces: u64) -> Option<bool>
+fn name(bytes: &[u8]) -> [u8; 32] {
+    Sha256Namer.name(bytes)
+}
+
+// Whether no chunk, `abc`, five chunks, and three from 1 on have their names.
+fn workers_name<H: Threads + Sync>(rt: &H, alloc: Global, workers: u32, pieces: u64) -> bool
     requires workers { AreWorkers workers }
 {
-    let none = names_of(rt, alloc, 0, &[], workers, pieces)?;
-    let one = names_of(rt, alloc, 0, &[1], workers, pieces)?;
-    let five = names_of(rt, alloc, 0, &[1, 2, 3, 4, 5], workers, pieces)?;
-    let three = names_of(rt, alloc, 1, &[2, 4, 5], workers, pieces)?;
-    let wanted = [
-        Sha256Namer.name(b"b"),
-        Sha256Namer.name(b"cd"),
-        Sha256Namer.name(b"e"),
-    ];
-    Some(
-        none.len() == 0
-            && one.len() == 1
-            && five.len() == 5
-            && three.as_slice() == wanted.as_slice(),
-    )
+    let five = [name(b"a"), name(b"b"), name(b"c"), name(b"d"), name(b"e")];
+    let three = [name(b"b"), name(b"cd"), name(b"e")];
+    names_are(rt, alloc, 0, &[], workers, pieces, &[])
+        && names_are(rt, alloc, 0, &[3], workers, pieces, &[name(b"abc")])
+        && names_are(rt, alloc, 0, &[1, 2, 3, 4, 5], workers, pieces, &five)
+        && names_are(rt, alloc, 1, &[2, 4, 5], workers, pieces, &three)
 }
 
 #[test]
 fn any_workers_find_the_same_names_and_each_calls_the_gate_once(rt: HostRuntime) {
     for (workers, pieces) in [(1, 1), (2, 3), (3, 7), (4, 15), (64, u64::MAX)] {
-        let right = workers_name(&rt, rt.alloc(), workers, pieces);
-        assert!(rt; right == Some(true), "{workers} workers");
+        assert!(rt;
+            workers_name(&rt, rt.alloc(), workers, pieces),
+            "{workers} workers"
+        );
     }
 }
 
+// Whether these are the names of chunks of 1 byte and of 2.
+fn are_lengths(names: &[[u8; 32]]) -> bool {
+    names == [LengthNamer.name(b"a"), LengthNamer.name(b"bc")].as_slice()
+}
+
 // Whether two workers name a chunk of 1 byte and one of 2, each while the other does.
-fn two_meet<H: Threads + Sync>(rt: &H, alloc: Global) -> Option<bool> {
+fn two_meet<H: Threads + Sync>(rt: &H, alloc: Global) -> bool {
     let watch = Watch::new(Stage::Name, 3);
-    let names = name_all(rt, alloc, &watch, b"abc", 0, &[1, 3], 2, 7, &watch).ok()?;
-    let wanted = [LengthNamer.name(b"a"), LengthNamer.name(b"bc")];
-    Some(names.as_slice() == wanted.as_slice() && watch.has_noted(3, 2))
+    match name_all(rt, alloc, &watch, b"abc", 0, &[1, 3], 2, 7, &watch) {
+        Ok(names) => are_lengths(&names) && watch.has_noted(3, 2),
+        Err(_) => false,
+    }
 }
 
 #[test]
 fn two_workers_name_at_the_same_time_each_after_its_gate(rt: HostRuntime) {
-    assert!(rt; two_meet(&rt, rt.alloc()) == Some(true));
+    assert!(rt; two_meet(&rt, rt.alloc()));
 }

@@ -1,4 +1,4 @@
-use crate::drawn::next;
+use crate::drawn::draw;
 use sd_base::{IngestRecord, NewChunk, OutOfMemory, Record};
 use session_book::{Step, encode_record, next_record};
 use sha2::{Digest, Sha256};
@@ -46,19 +46,21 @@ pub const A: Body = (
     \0\0\0\x04\0\0\0\0\0\0\0\0\0\0\0\0\0\0\0\x01",
 );
 
-// What is read of bytes: a record of so many of them, or why there is none.
-pub type Seen = Result<u32, &'static str>;
-
-pub const SHORT: Seen = Err("short");
-
-pub const BAD: Seen = Err("bad");
+// What is read of bytes.
+#[derive(Clone, Copy, PartialEq)]
+pub enum Seen {
+    Whole(u32),
+    Short,
+    Bad,
+    NoMemory,
+}
 
 pub fn step_of(alloc: Global, bytes: &[u8]) -> Seen {
     match next_record(alloc, bytes) {
-        Ok(Step::Whole(_, used)) => Ok(used),
-        Ok(Step::Short) => SHORT,
-        Ok(Step::Bad) => BAD,
-        Err(OutOfMemory) => Err("out of memory"),
+        Ok(Step::Whole(_, used)) => Seen::Whole(used),
+        Ok(Step::Short) => Seen::Short,
+        Ok(Step::Bad) => Seen::Bad,
+        Err(OutOfMemory) => Seen::NoMemory,
     }
 }
 
@@ -72,8 +74,8 @@ pub fn flip(bytes: &mut [u8], place: usize, change: u8) {
 // Appends a kind, the length and the bytes of a body, and their digest.
 pub fn append_sealed(out: &mut Vec<u8>, kind: u8, body: &[u8]) -> Result<(), AllocError> {
     let start = out.len();
-    out.push(kind)?;
-    out.extend_from_slice(&(body.len() as u64).to_be_bytes()[4..])?;
+    let [_, _, _, _, a, b, c, d] = (body.len() as u64).to_be_bytes();
+    out.extend_from_slice(&[kind, a, b, c, d])?;
     out.extend_from_slice(body)?;
     let digest = digest_from(out.as_slice(), start);
     out.extend_from_slice(&digest)
@@ -87,13 +89,21 @@ fn digest_from(bytes: &[u8], start: usize) -> [u8; 32] {
     }
 }
 
+// Appends the records of these bodies.
+fn append_all(out: &mut Vec<u8>, bodies: &[Body]) -> Result<(), AllocError> {
+    for &(kind, body) in bodies {
+        append_sealed(out, kind, body)?;
+    }
+    Ok(())
+}
+
 // The records of these bodies, one after another.
 pub fn sealed(alloc: Global, bodies: &[Body]) -> Option<Vec<u8>> {
     let mut out = Vec::new(alloc);
-    for (kind, body) in bodies {
-        append_sealed(&mut out, *kind, body).ok()?;
+    match append_all(&mut out, bodies) {
+        Ok(()) => Some(out),
+        Err(_) => None,
     }
-    Some(out)
 }
 
 // Whether this is the ingest of session `a`.
@@ -119,83 +129,110 @@ fn the_names_in_these_records_are_the_digests_of_zeros(rt: HostRuntime) {
     );
 }
 
-// Whether the record of session `a` is read as it was written, with no room in its two lists for
-// items that the bytes do not hold.
-fn a_is_read(alloc: Global) -> Option<bool> {
-    let bytes = sealed(alloc, &[A])?;
-    match next_record(alloc, &bytes) {
+// Whether bytes are read as the record of session `a`, with no room in its two lists for items that
+// the bytes do not hold.
+fn are_read_as_a(alloc: Global, bytes: &[u8]) -> bool {
+    match next_record(alloc, bytes) {
         Ok(Step::Whole(Record::Ingest(entry), 139)) => {
             let is_a = is_session_a(&entry);
             let fresh = entry.fresh.into_vec().capacity();
             let recipe = entry.recipe.into_vec().capacity();
-            Some(is_a && fresh == 2 && recipe == 4)
+            is_a && fresh == 2 && recipe == 4
         }
-        _ => None,
+        _ => false,
     }
 }
 
-// Whether it is spelled the same again.
-fn a_is_written_again(alloc: Global) -> Option<bool> {
-    let bytes = sealed(alloc, &[A])?;
-    Some(written_again(alloc, &bytes)?.as_slice() == bytes.as_slice())
+// Whether the record that bytes begin with is spelled as all of them.
+pub fn has_this_spelling(alloc: Global, bytes: &[u8]) -> bool {
+    match written_again(alloc, bytes) {
+        Some(again) => again.as_slice() == bytes,
+        None => false,
+    }
+}
+
+fn a_is_read(alloc: Global) -> bool {
+    match sealed(alloc, &[A]) {
+        Some(bytes) => are_read_as_a(alloc, &bytes) && has_this_spelling(alloc, &bytes),
+        None => false,
+    }
 }
 
 #[test]
 fn an_ingest_has_one_spelling_and_is_read_into_lists_of_its_size(rt: HostRuntime) {
-    assert!(rt; a_is_read(rt.alloc()) == Some(true));
-    assert!(rt; a_is_written_again(rt.alloc()) == Some(true));
+    assert!(rt; a_is_read(rt.alloc()));
 }
 
-// The record of the drop of session 0, if it is as long as it must be and begins so.
-fn drop_of_0(alloc: Global) -> Option<Vec<u8>> {
-    let bytes = encode_record(alloc, &Record::Drop(0)).ok()?;
-    if bytes.len() == 41 && bytes.starts_with(b"D\0\0\0\x04\0\0\0\0") {
-        Some(bytes)
-    } else {
-        None
+// The record of the drop of session 0: 41 bytes. The digest is that of SHA-256.
+const DROP: &[u8] = b"D\0\0\0\x04\0\0\0\0\
+    \xcc\xfb\x74\xc7\x78\x2f\xdf\xbe\xba\xf9\xfc\x24\x48\xa6\xa2\xa3\
+    \xab\xec\xce\x62\x80\x87\x9b\xa3\xf8\xd3\x05\xaa\x7e\x5f\xa4\xf6";
+
+// The same without its last byte, with that byte changed, and with a byte more.
+const CUT_DROP: &[u8] = b"D\0\0\0\x04\0\0\0\0\
+    \xcc\xfb\x74\xc7\x78\x2f\xdf\xbe\xba\xf9\xfc\x24\x48\xa6\xa2\xa3\
+    \xab\xec\xce\x62\x80\x87\x9b\xa3\xf8\xd3\x05\xaa\x7e\x5f\xa4";
+
+const CHANGED_DROP: &[u8] = b"D\0\0\0\x04\0\0\0\0\
+    \xcc\xfb\x74\xc7\x78\x2f\xdf\xbe\xba\xf9\xfc\x24\x48\xa6\xa2\xa3\
+    \xab\xec\xce\x62\x80\x87\x9b\xa3\xf8\xd3\x05\xaa\x7e\x5f\xa4\xf7";
+
+const FOLLOWED_DROP: &[u8] = b"D\0\0\0\x04\0\0\0\0\
+    \xcc\xfb\x74\xc7\x78\x2f\xdf\xbe\xba\xf9\xfc\x24\x48\xa6\xa2\xa3\
+    \xab\xec\xce\x62\x80\x87\x9b\xa3\xf8\xd3\x05\xaa\x7e\x5f\xa4\xf6\xff";
+
+static STEPS: [(&[u8], Seen); 6] = [
+    (DROP, Seen::Whole(41)),
+    (CUT_DROP, Seen::Short),
+    (CHANGED_DROP, Seen::Bad),
+    (FOLLOWED_DROP, Seen::Whole(41)),
+    (&[0xff; 200], Seen::Short),
+    (&[0; 200], Seen::Bad),
+];
+
+#[test]
+fn a_drop_is_read_again_whatever_follows_and_bytes_of_one_value_are_no_record(rt: HostRuntime) {
+    for (row, &(bytes, want)) in STEPS.iter().enumerate() {
+        assert!(rt; step_of(rt.alloc(), bytes) == want, "row {row}");
     }
 }
 
-// Whether that record is read, whole and with one byte more, and is short without its last byte and
-// bad if that is changed.
-fn drop_is_read(alloc: Global) -> Option<bool> {
-    let mut bytes = drop_of_0(alloc)?;
-    let is_read = step_of(alloc, &bytes) == Ok(41) && step_of(alloc, bytes.get(..40)?) == SHORT;
-    bytes.push(0xff).ok()?;
-    let is_read_before = step_of(alloc, &bytes) == Ok(41);
-    flip(&mut bytes, 40, 1);
-    Some(is_read && is_read_before && step_of(alloc, bytes.get(..41)?) == BAD)
+fn drop_is_written(alloc: Global) -> bool {
+    match encode_record(alloc, &Record::Drop(0)) {
+        Ok(bytes) => bytes.as_slice() == DROP,
+        Err(_) => false,
+    }
 }
 
 #[test]
-fn a_drop_has_41_bytes_and_is_read_again_whatever_follows(rt: HostRuntime) {
-    assert!(rt; drop_is_read(rt.alloc()) == Some(true));
+fn a_drop_has_41_bytes(rt: HostRuntime) {
+    assert!(rt; drop_is_written(rt.alloc()));
 }
 
 // A body, and what is read of its record.
 static BODIES: [(Body, Seen); 20] = [
-    ((b'D', b"\0\0\0\0"), Ok(41)),
-    ((b'D', b"\0\0\0\0\0"), BAD),
-    ((b'D', b"\0\0\0"), BAD),
-    ((b'E', b"\0\0\0\0"), BAD),
-    ((b'I', b"\0\0\0\0"), BAD),
-    ((b'I', b"\x01a\0\0\0\0\0\0\0\0\0\0\0\0"), Ok(51)),
-    ((b'D', b"\x01a\0\0\0\0\0\0\0\0\0\0\0\0"), BAD),
-    ((b'I', b"\x01a\0\0\0\0\0\0\0\0\0\0\0\0\0"), BAD),
-    ((b'I', b"\0\0\0\0\0\0\0\0\0\0\0\0\0"), BAD),
-    ((b'I', b"\x01.\0\0\0\0\0\0\0\0\0\0\0\0"), BAD),
-    ((b'I', b"AB\0\0\0\0\0\0\0\0\0\0\0\0"), BAD),
+    ((b'D', b"\0\0\0\0"), Seen::Whole(41)),
+    ((b'D', b"\0\0\0\0\0"), Seen::Bad),
+    ((b'D', b"\0\0\0"), Seen::Bad),
+    ((b'E', b"\0\0\0\0"), Seen::Bad),
+    ((b'I', b"\0\0\0\0"), Seen::Bad),
+    ((b'I', b"\x01a\0\0\0\0\0\0\0\0\0\0\0\0"), Seen::Whole(51)),
+    ((b'D', b"\x01a\0\0\0\0\0\0\0\0\0\0\0\0"), Seen::Bad),
+    ((b'I', b"\x01a\0\0\0\0\0\0\0\0\0\0\0\0\0"), Seen::Bad),
+    ((b'I', b"\0\0\0\0\0\0\0\0\0\0\0\0\0"), Seen::Bad),
+    ((b'I', b"\x01.\0\0\0\0\0\0\0\0\0\0\0\0"), Seen::Bad),
+    ((b'I', b"AB\0\0\0\0\0\0\0\0\0\0\0\0"), Seen::Bad),
     // the recipe has one entry, or more than a record may have
     (
         (b'I', b"\x01a\0\0\0\0\0\0\0\0\0\0\0\x01\xff\xff\xff\xff"),
-        Ok(55),
+        Seen::Whole(55),
     ),
     (
         (
             b'I',
             b"\x01a\0\0\0\0\0\0\0\0\xff\xff\xff\xff\xff\xff\xff\xff",
         ),
-        BAD,
+        Seen::Bad,
     ),
     // names of 64 letters and of 65
     (
@@ -204,7 +241,7 @@ static BODIES: [(Body, Seen); 20] = [
             b"\x40aaaaaaaaaaaaaaaaaaaaaaaaaaaaaaaaaaaaaaaaaaaaaaaaaaaaaaaaaaaaaaaa\
             \0\0\0\0\0\0\0\0\0\0\0\0",
         ),
-        Ok(114),
+        Seen::Whole(114),
     ),
     (
         (
@@ -212,7 +249,7 @@ static BODIES: [(Body, Seen); 20] = [
             b"\x41aaaaaaaaaaaaaaaaaaaaaaaaaaaaaaaaaaaaaaaaaaaaaaaaaaaaaaaaaaaaaaaaa\
             \0\0\0\0\0\0\0\0\0\0\0\0",
         ),
-        BAD,
+        Seen::Bad,
     ),
     // one new chunk, of which the record has the number 1 and the lengths 1, 1,048,576, 0 and
     // 1,048,577, and then the number 4,294,967,295
@@ -221,68 +258,71 @@ static BODIES: [(Body, Seen); 20] = [
             b'I',
             b"\x01a\0\0\0\0\0\0\0\x01\0\0\0\x01abcdefghijklmnopqrstuvwxyz012345\0\0\0\0",
         ),
-        Ok(87),
+        Seen::Whole(87),
     ),
     (
         (
             b'I',
             b"\x01a\0\0\0\0\0\0\0\x01\0\x10\0\0abcdefghijklmnopqrstuvwxyz012345\0\0\0\0",
         ),
-        Ok(87),
+        Seen::Whole(87),
     ),
     (
         (
             b'I',
             b"\x01a\0\0\0\0\0\0\0\x01\0\0\0\0abcdefghijklmnopqrstuvwxyz012345\0\0\0\0",
         ),
-        BAD,
+        Seen::Bad,
     ),
     (
         (
             b'I',
             b"\x01a\0\0\0\0\0\0\0\x01\0\x10\0\x01abcdefghijklmnopqrstuvwxyz012345\0\0\0\0",
         ),
-        BAD,
+        Seen::Bad,
     ),
     (
         (
             b'I',
             b"\x01a\0\0\0\0\xff\xff\xff\xff\0\0\0\x01abcdefghijklmnopqrstuvwxyz012345\0\0\0\0",
         ),
-        BAD,
+        Seen::Bad,
     ),
 ];
 
 // What is read of the record of a body.
-fn step_of_body(alloc: Global, body: Body) -> Option<Seen> {
-    let bytes = sealed(alloc, &[body])?;
-    Some(step_of(alloc, &bytes))
+fn step_of_body(alloc: Global, kind: u8, body: &[u8]) -> Option<Seen> {
+    let mut bytes = Vec::new(alloc);
+    match append_sealed(&mut bytes, kind, body) {
+        Ok(()) => Some(step_of(alloc, &bytes)),
+        Err(_) => None,
+    }
 }
 
 #[test]
 fn a_body_is_read_exactly_if_it_is_in_the_grammar(rt: HostRuntime) {
-    for (row, &(body, want)) in BODIES.iter().enumerate() {
-        assert!(rt; step_of_body(rt.alloc(), body) == Some(want), "row {row}");
+    for (row, &((kind, body), want)) in BODIES.iter().enumerate() {
+        assert!(rt;
+            step_of_body(rt.alloc(), kind, body) == Some(want),
+            "row {row}"
+        );
     }
 }
 
 // Whether each front of 200 bytes of noise is refused under its own digest, by the grammar alone.
-fn noise_is_refused(alloc: Global) -> Option<bool> {
-    let mut front = Vec::new(alloc);
-    let mut state = 1u32;
-    for _ in 0..200 {
-        state = next(state);
-        front.push((state >> 24) as u8).ok()?;
-        let mut bytes = Vec::new(alloc);
-        append_sealed(&mut bytes, b'I', &front).ok()?;
-        if step_of(alloc, &bytes) != BAD {
-            return Some(false);
+fn noise_is_refused(alloc: Global) -> bool {
+    let mut noise = [0; 200];
+    draw(&mut noise, 1, 0xff);
+    for len in 1..=200usize {
+        let front = noise.get(..len).unwrap_or(b"");
+        if front.is_empty() || step_of_body(alloc, b'I', front) != Some(Seen::Bad) {
+            return false;
         }
     }
-    Some(step_of(alloc, &[0xff; 200]) == SHORT && step_of(alloc, &[0; 200]) == BAD)
+    true
 }
 
 #[test]
-fn noise_under_its_digest_and_bytes_of_one_value_are_no_record(rt: HostRuntime) {
-    assert!(rt; noise_is_refused(rt.alloc()) == Some(true));
+fn noise_under_its_digest_is_no_record(rt: HostRuntime) {
+    assert!(rt; noise_is_refused(rt.alloc()));
 }

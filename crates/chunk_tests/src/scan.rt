@@ -96,23 +96,27 @@ fn a_candidate_is_found_in_the_ranges_that_hold_its_position(rt: HostRuntime) {
     }
 }
 
-// Whether each whole window of zeros is found with the target 0, and nothing before.
-fn every_window_is_found(alloc: Global, step: u32) -> Option<bool> {
-    let map = candidates(alloc, 0, &[], 0, 300, step)?;
-    for p in 0..301 {
-        if has(&map, p) != (48 <= p) {
-            return Some(false);
+// Whether the positions of a map are those from `first` on.
+fn positions_begin_at(map: &PlainMap, first: u32) -> bool {
+    for p in 0..map.bits() {
+        if has(map, p) != (first <= p) {
+            return false;
         }
     }
-    Some(map.bits() == 301)
+    true
+}
+
+// Whether each whole window of zeros is found with the target 0, and nothing before.
+fn every_window_is_found(alloc: Global, step: u32) -> bool {
+    match candidates(alloc, 0, &[], 0, 300, step) {
+        Some(map) => map.bits() == 301 && positions_begin_at(&map, 48),
+        None => false,
+    }
 }
 
 #[test]
 fn every_window_of_zeros_is_found_with_target_0(rt: HostRuntime) {
     for step in [300, 1, 47, 48, 65] {
-        assert!(rt;
-            every_window_is_found(rt.alloc(), step) == Some(true),
-            "ranges of {step}"
-        );
+        assert!(rt; every_window_is_found(rt.alloc(), step), "ranges of {step}");
     }
 }

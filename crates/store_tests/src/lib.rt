@@ -3,10 +3,10 @@
 #![tactic(auto)]
 
 #[cfg(test)]
-mod dropping;
-#[cfg(test)]
 mod ingest;
 #[cfg(test)]
 mod opening;
+#[cfg(test)]
+mod steps;
 #[cfg(test)]
 mod store;

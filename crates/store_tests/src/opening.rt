@@ -1,32 +1,13 @@
+use crate::steps::{shelf_with, small_params};
 use chunk_names::Sha256Namer;
 use edge_traits::{EdgeFault, File, MemShelf, Shelf, ShelfFail};
-use sd_base::{Damage, IngestRecord, Name, NewChunk, Params, Record};
-use session_book::encode_record;
+use sd_base::{Damage, Params};
 use std::alloc::Global;
-use std::test::Fail;
 use store_core::{Store, StoreFault, init, settings_of};
 
-// The helpers return `None` if a test cannot be set up, or something goes wrong before what they
-// return. Each assertion wants `Some`.
-
-/// The parameters under which every window of zeros is a match.
-pub(crate) fn small_params() -> Option<Params> {
-    Params::new(0x8000_0000_0000_0001, 13, 0, 64, 256).ok()
-}
-
-/// The head of a store with these parameters.
+/// The head of a store with the small parameters.
 const SMALL_HEAD: &[u8] =
     b"SSCH\x01\0\x0d\0\x80\0\0\0\0\0\0\x01\0\0\0\0\0\0\0\x40\0\0\x01\0\0\0\0\0S";
-
-/// A shelf of which these calls fail.
-pub(crate) fn shelf_with(alloc: Global, failing: &[ShelfFail]) -> Option<MemShelf> {
-    Some(MemShelf::new(alloc, Vec::from_slice(alloc, failing).ok()?))
-}
-
-/// How making a store with the small parameters ends.
-fn made(alloc: Global, shelf: &mut MemShelf) -> Option<Result<(), StoreFault>> {
-    Some(init(alloc, shelf, &small_params()?))
-}
 
 /// How opening the files of a shelf ends.
 fn opened(alloc: Global, shelf: &mut MemShelf) -> Option<StoreFault> {
@@ -41,19 +22,30 @@ fn is_new(shelf: &MemShelf) -> bool {
         && !shelf.is_loose(File::Seal(0))
 }
 
-/// Whether a store has no sessions, the generation 0, and the small parameters.
-fn is_empty(store: &Store<Sha256Namer>) -> Option<bool> {
-    Some(
-        store.book().sessions() == 0
-            && store.generation() == 0
-            && *store.params() == small_params()?
-            && settings_of(store.params()).as_slice() == &SMALL_HEAD[..32],
-    )
+/// Whether a store has no sessions, the generation 0, and these parameters.
+fn is_empty(store: &Store<Sha256Namer>, params: &Params) -> bool {
+    store.book().sessions() == 0
+        && store.generation() == 0
+        && store.params() == params
+        && settings_of(store.params()).as_slice() == &SMALL_HEAD[..32]
 }
 
-/// Whether the files open as a store with no sessions and the small parameters.
-fn opens_empty(alloc: Global, shelf: &mut MemShelf) -> Option<bool> {
-    is_empty(&Store::open(alloc, shelf, Sha256Namer).ok()?)
+/// Whether the files open as such a store.
+fn opens_empty(alloc: Global, shelf: &mut MemShelf, params: &Params) -> bool {
+    match Store::open(alloc, shelf, Sha256Namer) {
+        Ok(store) => is_empty(&store, params),
+        Err(_) => false,
+    }
+}
+
+/// Whether a store is made where there is none, is new then, and opens empty after it was refused to be
+/// made again.
+fn makes_once(alloc: Global, shelf: &mut MemShelf, params: &Params) -> bool {
+    opened(alloc, shelf) == Some(StoreFault::NoStore)
+        && init(alloc, shelf, params) == Ok(())
+        && is_new(shelf)
+        && init(alloc, shelf, params) == Err(StoreFault::StoreThere)
+        && opens_empty(alloc, shelf, params)
 }
 
 /// A shelf with no store, on which an earlier run left a seal.
@@ -63,151 +55,115 @@ fn with_old_seal(alloc: Global, failing: &[ShelfFail]) -> Option<MemShelf> {
     Some(shelf)
 }
 
-/// Whether a store is made where there is none, and then is new.
-fn is_made_new(alloc: Global, shelf: &mut MemShelf) -> Option<bool> {
-    Some(
-        opened(alloc, shelf) == Some(StoreFault::NoStore)
-            && made(alloc, shelf)? == Ok(())
-            && is_new(shelf),
-    )
-}
-
-/// Whether a store is made once, and opens empty after it was refused to be made again.
-fn is_made_once(alloc: Global) -> Option<bool> {
-    let mut shelf = with_old_seal(alloc, &[])?;
-    Some(
-        is_made_new(alloc, &mut shelf)?
-            && made(alloc, &mut shelf)? == Err(StoreFault::StoreThere)
-            && opens_empty(alloc, &mut shelf)?,
-    )
+fn is_made_once(alloc: Global) -> bool {
+    match (with_old_seal(alloc, &[]), small_params()) {
+        (Some(mut shelf), Some(params)) => makes_once(alloc, &mut shelf, &params),
+        _ => false,
+    }
 }
 
 #[test]
-fn a_store_is_made_once_and_opens_empty(rt: HostRuntime) -> Result<(), Fail> {
-    assert!(rt; is_made_once(rt.alloc()) == Some(true));
-    Ok(())
+fn a_store_is_made_once_and_opens_empty(rt: HostRuntime) {
+    assert!(rt; is_made_once(rt.alloc()));
 }
 
-/// The name of a session.
-pub(crate) fn name_of(bytes: &[u8]) -> Option<Name> {
-    Name::read(bytes).ok()
+/// The record of an ingest of 8 bytes under the name `a`, with one new chunk, which is named by the
+/// number 2 and whose place has the entry 0. The digest is that of SHA-256.
+const RIGHT: &[u8] = b"I\0\0\0\x36\x01a\0\0\0\x08\0\0\0\x01\0\0\0\x08\
+    \x02\x02\x02\x02\x02\x02\x02\x02\x02\x02\x02\x02\x02\x02\x02\x02\
+    \x02\x02\x02\x02\x02\x02\x02\x02\x02\x02\x02\x02\x02\x02\x02\x02\
+    \0\0\0\x01\0\0\0\0\
+    \x5c\x2b\xbd\xe0\xe7\xc7\x9b\x73\xe2\xa1\x1a\x02\x73\x3f\xe1\x21\
+    \x42\x40\x30\x89\x3d\x48\x1d\x8e\xeb\x46\xa1\x23\x25\x0a\xe1\x00";
+
+/// The same with the entry 1.
+const BEYOND: &[u8] = b"I\0\0\0\x36\x01a\0\0\0\x08\0\0\0\x01\0\0\0\x08\
+    \x02\x02\x02\x02\x02\x02\x02\x02\x02\x02\x02\x02\x02\x02\x02\x02\
+    \x02\x02\x02\x02\x02\x02\x02\x02\x02\x02\x02\x02\x02\x02\x02\x02\
+    \0\0\0\x01\0\0\0\x01\
+    \x31\x9f\xda\xb8\x6a\x03\xd6\xb9\x37\xa9\x32\x18\xc4\x06\xc0\xea\
+    \xfe\xc8\x87\x88\x8c\x59\xc9\xdd\x6e\x1b\xd5\x06\x6e\x7a\x57\x77";
+
+/// The head, the seal and the book of a store of generation 0, and its one container.
+type Files = [&'static [u8]; 4];
+
+/// Whether these files are put on a shelf.
+fn put_files(shelf: &mut MemShelf, files: Files) -> bool {
+    let [head, seal, book, container] = files;
+    shelf.put_file(File::Head, head).is_ok()
+        && shelf.put_file(File::Seal(0), seal).is_ok()
+        && shelf.put_file(File::Book(0), book).is_ok()
+        && shelf.put_file(File::Container(0, 0), container).is_ok()
 }
 
-/// The bytes of an ingest of 8 bytes under a name, with one new chunk and one place of this entry.
-fn ingest_bytes(alloc: Global, name: Name, entry: u32) -> Option<Vec<u8>> {
-    let chunk = NewChunk {
-        length: 8,
-        name: [2; 32],
-    };
-    let fresh = Vec::from_slice(alloc, &[chunk]).ok()?;
-    let recipe = Vec::from_slice(alloc, &[entry]).ok()?;
-    let record = Record::Ingest(IngestRecord {
-        name,
-        length: 8,
-        fresh: fresh.into(),
-        recipe: recipe.into(),
-    });
-    encode_record(alloc, &record).ok()
-}
+const WHOLE: Files = [SMALL_HEAD, b"S", RIGHT, &[0; 16]];
 
-/// Puts the files of a store of generation 0 with one container.
-fn put_store(
-    shelf: &mut MemShelf,
-    head: &[u8],
-    seal: &[u8],
-    book: &[u8],
-    container: &[u8],
-) -> Option<()> {
-    shelf.put_file(File::Head, head).ok()?;
-    shelf.put_file(File::Seal(0), seal).ok()?;
-    shelf.put_file(File::Book(0), book).ok()?;
-    shelf.put_file(File::Container(0, 0), container).ok()
-}
-
-const SEALS: &[u8] = b"SS";
-
-const ZEROS: &[u8] = &[0; 17];
-
-/// Puts the files of a store: so many bytes of a seal, so many bytes of an ingest with a place of this
-/// entry, and a container of so many zeros.
-fn put_ingest(
-    alloc: Global,
-    shelf: &mut MemShelf,
-    head: &[u8],
-    sealed: usize,
-    entry: u32,
-    kept: usize,
-    contained: usize,
-) -> Option<()> {
-    let book = ingest_bytes(alloc, name_of(b"a")?, entry)?;
-    let (seal, container) = (&SEALS[..sealed.min(2)], &ZEROS[..contained.min(17)]);
-    put_store(shelf, head, seal, &book[..kept.min(book.len())], container)
-}
-
-/// The damage that opening these files finds. It must find one or end well.
-fn damage_of(
-    alloc: Global,
-    head: &[u8],
-    sealed: usize,
-    entry: u32,
-    kept: usize,
-    contained: usize,
-) -> Option<Option<Damage>> {
-    let mut shelf = shelf_with(alloc, &[])?;
-    put_ingest(alloc, &mut shelf, head, sealed, entry, kept, contained)?;
-    damage_found(opened(alloc, &mut shelf))
-}
-
-/// All bytes of a record.
-const ALL: usize = usize::MAX;
-
-const SHORT: Damage = Damage::Container {
+const SHORT: StoreFault = StoreFault::Damaged(Damage::Container {
     number: 0,
     needed: 16,
     found: 15,
-};
+});
 
-const FLAW: Damage = Damage::Recipe {
+const FLAW: StoreFault = StoreFault::Damaged(Damage::Recipe {
     session: 0,
     place: 0,
-};
+});
 
-/// What is put, as for `damage_of`, and the damage that is found.
-static CASES: [(&[u8], usize, u32, usize, usize, Option<Damage>); 8] = [
-    (SMALL_HEAD, 1, 0, ALL, 16, None),
-    (SMALL_HEAD, 1, 0, ALL, 17, None),
-    (SMALL_HEAD, 0, 1, ALL, 0, None),
-    (&[0; 33], 1, 0, ALL, 16, Some(Damage::Head)),
-    (SMALL_HEAD, 2, 0, ALL, 16, Some(Damage::Record(1))),
-    (SMALL_HEAD, 1, 0, 1, 0, Some(Damage::Record(0))),
-    (SMALL_HEAD, 1, 1, ALL, 0, Some(FLAW)),
-    (SMALL_HEAD, 1, 0, ALL, 15, Some(SHORT)),
+/// Files, and how opening them ends.
+static CASES: [(Files, Option<StoreFault>); 8] = [
+    (WHOLE, None),
+    ([SMALL_HEAD, b"S", RIGHT, &[0; 17]], None),
+    ([SMALL_HEAD, b"", BEYOND, b""], None),
+    (
+        [&[0; 33], b"S", RIGHT, &[0; 16]],
+        Some(StoreFault::Damaged(Damage::Head)),
+    ),
+    (
+        [SMALL_HEAD, b"SS", RIGHT, &[0; 16]],
+        Some(StoreFault::Damaged(Damage::Record(1))),
+    ),
+    (
+        [SMALL_HEAD, b"S", b"I", b""],
+        Some(StoreFault::Damaged(Damage::Record(0))),
+    ),
+    ([SMALL_HEAD, b"S", BEYOND, b""], Some(FLAW)),
+    ([SMALL_HEAD, b"S", RIGHT, &[0; 15]], Some(SHORT)),
 ];
 
-/// The damage that opening these files finds, if it ends in one or well.
-fn damage_found(ends: Option<StoreFault>) -> Option<Option<Damage>> {
-    match ends {
-        None => Some(None),
-        Some(StoreFault::Damaged(damage)) => Some(Some(damage)),
-        _ => None,
+/// Whether opening these files ends so.
+fn opening_ends(alloc: Global, files: Files, ends: Option<StoreFault>) -> bool {
+    match shelf_with(alloc, &[]) {
+        Some(mut shelf) => put_files(&mut shelf, files) && opened(alloc, &mut shelf) == ends,
+        None => false,
     }
 }
 
 #[test]
-fn the_first_damage_is_named(rt: HostRuntime) -> Result<(), Fail> {
-    for &(head, sealed, entry, kept, contained, want) in &CASES {
-        assert!(rt; damage_of(rt.alloc(), head, sealed, entry, kept, contained) == Some(want));
+fn the_first_damage_is_named(rt: HostRuntime) {
+    for (row, &(files, ends)) in CASES.iter().enumerate() {
+        assert!(rt; opening_ends(rt.alloc(), files, ends), "row {row}");
     }
-    Ok(())
 }
 
-/// How making a store, opening it and opening it again end, if this call of the shelf fails.
-fn outcomes(alloc: Global, call: u32) -> Option<[Option<StoreFault>; 3]> {
-    let mut shelf = shelf_with(alloc, &[ShelfFail { call, kept: 0 }])?;
-    let made = made(alloc, &mut shelf)?.err();
-    let first = opened(alloc, &mut shelf);
-    let second = opened(alloc, &mut shelf);
-    Some([made, first, second])
+/// Whether making a store, opening it and opening it again end so.
+fn making_ends(alloc: Global, shelf: &mut MemShelf, ends: [Option<StoreFault>; 3]) -> bool {
+    let [made, first, second] = ends;
+    match small_params() {
+        Some(params) => {
+            init(alloc, shelf, &params).err() == made
+                && opened(alloc, shelf) == first
+                && opened(alloc, shelf) == second
+        }
+        None => false,
+    }
+}
+
+/// Whether they end so if this call of the shelf fails.
+fn ends_are(alloc: Global, call: u32, ends: [Option<StoreFault>; 3]) -> bool {
+    match shelf_with(alloc, &[ShelfFail { call, kept: 0 }]) {
+        Some(mut shelf) => making_ends(alloc, &mut shelf, ends),
+        None => false,
+    }
 }
 
 /// How they must end.
@@ -226,28 +182,38 @@ fn wanted(call: u32) -> [Option<StoreFault>; 3] {
 // empty store takes 5: it asks for the sizes of its head, its seal and its book, and reads the
 // settings and an empty front of the book.
 #[test]
-fn a_failing_call_is_a_fault_of_the_shelf(rt: HostRuntime) -> Result<(), Fail> {
+fn a_failing_call_is_a_fault_of_the_shelf(rt: HostRuntime) {
     for call in 0..14 {
         assert!(rt;
-            outcomes(rt.alloc(), call) == Some(wanted(call)),
+            ends_are(rt.alloc(), call, wanted(call)),
             "call {call} fails"
         );
     }
-    Ok(())
 }
 
-/// What is left if this call fails while a store is made: the bytes of the head, and whether the seal
-/// is loose. The call must end in a fault of the shelf.
-fn left_by(alloc: Global, call: u32) -> Option<(usize, bool)> {
-    let mut shelf = with_old_seal(alloc, &[ShelfFail { call, kept: 1 }])?;
-    if made(alloc, &mut shelf)? != Err(StoreFault::ShelfFault) {
-        return None;
+/// Whether making a store ends in a fault of the shelf, and leaves so many bytes of the head and the
+/// seal loose or not.
+fn making_leaves(alloc: Global, shelf: &mut MemShelf, head: usize, loose: bool) -> bool {
+    match small_params() {
+        Some(params) => {
+            init(alloc, shelf, &params) == Err(StoreFault::ShelfFault)
+                && shelf.file(File::Head).len() == head
+                && shelf.is_loose(File::Seal(0)) == loose
+        }
+        None => false,
     }
-    Some((shelf.file(File::Head).len(), shelf.is_loose(File::Seal(0))))
+}
+
+/// Whether this call leaves so, if it fails after a byte.
+fn call_leaves(alloc: Global, call: u32, head: usize, loose: bool) -> bool {
+    match with_old_seal(alloc, &[ShelfFail { call, kept: 1 }]) {
+        Some(mut shelf) => making_leaves(alloc, &mut shelf, head, loose),
+        None => false,
+    }
 }
 
 #[test]
-fn the_byte_that_opens_a_store_comes_last(rt: HostRuntime) -> Result<(), Fail> {
+fn the_byte_that_opens_a_store_comes_last(rt: HostRuntime) {
     for (call, head, loose) in [
         (1, 0, true),
         (2, 0, true),
@@ -258,25 +224,26 @@ fn the_byte_that_opens_a_store_comes_last(rt: HostRuntime) -> Result<(), Fail> {
         (7, 33, false),
     ] {
         assert!(rt;
-            left_by(rt.alloc(), call) == Some((head, loose)),
+            call_leaves(rt.alloc(), call, head, loose),
             "call {call} fails"
         );
     }
-    Ok(())
 }
 
-/// How opening a store with one session ends, if this call of the shelf fails, and how the call after
-/// it ends.
-fn opening_of_one(alloc: Global, call: u32) -> Option<(Option<StoreFault>, Option<EdgeFault>)> {
-    let mut shelf = shelf_with(alloc, &[ShelfFail { call, kept: 0 }])?;
-    put_ingest(alloc, &mut shelf, SMALL_HEAD, 1, 0, ALL, 16)?;
-    let ends = opened(alloc, &mut shelf);
-    Some((ends, shelf.len(File::Head).err()))
+/// Whether opening a store with one session ends well before this call of the shelf, which fails.
+fn opens_before(alloc: Global, call: u32) -> bool {
+    match shelf_with(alloc, &[ShelfFail { call, kept: 0 }]) {
+        Some(mut shelf) => {
+            put_files(&mut shelf, WHOLE)
+                && opened(alloc, &mut shelf).is_none()
+                && shelf.len(File::Head) == Err(EdgeFault::Failed)
+        }
+        None => false,
+    }
 }
 
 // Four sizes are asked for; the settings, the head of the record and the record are read.
 #[test]
-fn opening_reads_each_record_once_and_no_container(rt: HostRuntime) -> Result<(), Fail> {
-    assert!(rt; opening_of_one(rt.alloc(), 7) == Some((None, Some(EdgeFault::Failed))));
-    Ok(())
+fn opening_reads_each_record_once_and_no_container(rt: HostRuntime) {
+    assert!(rt; opens_before(rt.alloc(), 7));
 }
