@@ -88,6 +88,9 @@ memory-not-places is = cc
 pub memory-not-shelf : Store OutOfMemory ≡ Store ShelfFault → ⊥
 memory-not-shelf is = cc
 
+pub memory-no-fault : OutOfMemory ≡ ShelfFault → ⊥
+memory-no-fault is = cc
+
 -- a store that refuses chunks refuses them to an ingest, and not for want of places
 pub offers-of-chunks : {T : Type 0} (fault : StoreFault) → OnlyRefuses (let r : Result T StoreFault = Err fault in r) →
     IsOfChunks (Store fault) × (fault ≡ TooManyPlaces → ⊥)

@@ -1,4 +1,4 @@
-use Rattle.std.proofs.Common.{◌≡◌, inr, rules, ◌++◌, ◌∷◌, ◌∙◌, Global, Vec, ℕ, ◌+◌, ◌<◌, List, [], ap, drop, length, refl, sym, subst, arith}
+use Rattle.std.proofs.Common.{◌≡◌, inr, ◌++◌, ◌∷◌, ◌∙◌, Global, Vec, ℕ, ◌+◌, ◌<◌, List, [], ap, drop, length, refl, sym, subst, arith}
 use Rattle.std.proofs.lemmas.List.{drop_all, get_or_read}
 use Rattle.std.specs.Prelude.{IfSome, OnErr, Result, slice_index_or}
 use Rattle.sd_base.specs.Cutting.{chunks_of}
@@ -9,7 +9,7 @@ use Rattle.store_core.specs.StoreStates.{StandsFor}
 use Rattle.store_core.specs.declared.fault.StoreFault.{StoreFault}
 use Rattle.store_core.specs.declared.fault.StoreFault.TheVariants.{OutOfMemory}
 use Rattle.ingest_core.specs.Offering.{AreRefused, OnlyRefuses}
-use Rattle.ingest_core.proofs.FaultLemmas.{passed-is, memory-fails}
+use Rattle.ingest_core.proofs.FaultLemmas.{counts-as, counts-none, counts-on, err-is, err-of, memory-fails, memory-no-fault, ok-not, passed-is}
 use Rattle.ingest_core.proofs.PartLemmas.{IsPart, offer-refuses, part-all, part-at, part-here, part-next, part-none, part-refused, part-repeat, part-same, part-stopped}
 use Rattle.store_core.proofs.StoreLemmas.{if_told}
 use Rattle.ingest_core.proofs.offering.offer_all.Goals as goal
@@ -21,7 +21,7 @@ loop-cut-init g c =
     let files = g.F.Shelf.files c.args.shelf.now in
     let input = c.args.input.now in
     record {
-      counts = search rules;
+      counts = counts-none _ _ _ _ (λ is. is);
       part = subst (λ (recipe : List ℕ).
           IsPart g.N.Namer.name_of input (chunks_of store.opened.head.params input) 0 c.args.cuts.now recipe store store files files)
           (sym c.in_ok-recipe.ensures.items)
@@ -55,6 +55,18 @@ returns-in_err-recipe-clause-stands_refused g c = λ state.
     part-stopped name_of input chunks 0 cuts [] first first told told
     (part-none name_of first.opened.head.params input cuts first told refl c.requires.valid c.requires.cuts c.requires.none c.requires.sound)
     chunks (Vec ℕ Global) result (memory-fails result c.from_residual.ensures.1) state
+
+pub returns-in_err-recipe-clause-counts : goal.returns-in_err-recipe-clause-counts
+returns-in_err-recipe-clause-counts g c = counts-none _ _ _ _ (λ is.
+    memory-no-fault (err-is (sym (passed-is OutOfMemory c.from_residual.result c.from_residual.ensures.1) ∙ is)))
+
+pub returns-in_err-number-clause-counts : goal.returns-in_err-number-clause-counts
+returns-in_err-number-clause-counts g c =
+    let fault = c.in_err-number.field-0.0 in
+    let gave = passed-is fault c.from_residual-in_err-number.result c.from_residual-in_err-number.ensures.1 in
+    counts-as (λ is. c.in_err-number.was ∙ err-of _ (err-is (sym gave ∙ is)))
+    (counts-on ⊥ _ g.F.Shelf.faults g.F.Shelf.faultless c.args.shelf.now c.loop-cut.shelf c.offer.new.shelf
+    c.loop-cut.invariant.counts c.offer.ensures.counts)
 
 pub returns-in_err-number-clause-refused : goal.returns-in_err-number-clause-refused
 returns-in_err-number-clause-refused g c =
@@ -145,6 +157,32 @@ bounds-names-place g c =
     (g.F.Shelf.files c.loop-cut.shelf) part name_of [] c.args.names.now c.requires.names).0 in
     omega (arith, below, c.len-place.ensures, c.loop-cut.recipe.ok)
 
+pub offer-requires-clause-named : goal.offer-requires-clause-named
+offer-requires-clause-named g c = λ κs lives.
+    let cuts = c.args.cuts.now in
+    let k = c.loop-cut.cut-index in
+    let input = c.args.input.now in
+    let first = c.args.store.now in
+    let name_of = g.N.Namer.name_of in
+    let names = c.args.names.now in
+    let recipe = c.loop-cut.recipe.items in
+    let part = part-here cuts k (omega (arith, c.loop-cut-test.true)) c.loop-cut.invariant.part in
+    let place : c.len-place.result ≡ length recipe = omega (arith, c.len-place.ensures, c.loop-cut.recipe.ok) in
+    ap (λ (n : ℕ). slice_index_or names n []) place
+    ∙ (part-at name_of input (chunks_of first.opened.head.params input) c.loop-cut.start (slice_index_or cuts k 0)
+    (drop (k + 1) cuts) recipe first c.loop-cut.store (g.F.Shelf.files c.args.shelf.now)
+    (g.F.Shelf.files c.loop-cut.shelf) part name_of [] names c.requires.names).1
+
+pub offer-requires-clause-not_empty : goal.offer-requires-clause-not_empty
+offer-requires-clause-not_empty g c = λ κs lives.
+    let part = part-here c.args.cuts.now c.loop-cut.cut-index (omega (arith, c.loop-cut-test.true)) c.loop-cut.invariant.part in
+    part.fit.0.0
+
+pub offer-requires-clause-bounded : goal.offer-requires-clause-bounded
+offer-requires-clause-bounded g c = λ κs lives.
+    let part = part-here c.args.cuts.now c.loop-cut.cut-index (omega (arith, c.loop-cut-test.true)) c.loop-cut.invariant.part in
+    omega (arith, part.fit.0.1, c.requires.valid.max)
+
 pub returns-in_err-push-clause-offered : goal.returns-in_err-push-clause-offered
 returns-in_err-push-clause-offered g c =
     rw (passed-is OutOfMemory c.from_residual-in_err-push.result c.from_residual-in_err-push.ensures.1) tt
@@ -190,7 +228,8 @@ loop-cut-preserved g c =
       | else-leader-place+in_ok-number w ↦
           record {
             counts = subst (λ shelf. CountsFaults ⊥ g.F.Shelf.faults g.F.Shelf.faultless c.args.shelf.now shelf) (sym w.shelf-is)
-                (search rules);
+                (counts-as (λ is. absurd is) (counts-on ⊥ _ g.F.Shelf.faults g.F.Shelf.faultless c.args.shelf.now c.loop-cut.shelf
+                w.offer.new.shelf c.loop-cut.invariant.counts w.offer.ensures.counts));
             part = part-same name_of input chunks cut left (recipe ++ w.in_ok-number.number ∷ []) first w.offer.new.self before
                 (g.F.Shelf.files w.offer.new.shelf)
                 (part-next name_of input chunks start cut left recipe first c.loop-cut.store before mid part w.offer.new.self
@@ -201,6 +240,9 @@ loop-cut-preserved g c =
                 (ap g.F.Shelf.files w.shelf-is);
           }
     ]
+
+pub returns-clause-counts : goal.returns-clause-counts
+returns-clause-counts g c = counts-as (λ is. absurd (ok-not is)) c.loop-cut.invariant.counts
 
 pub returns-clause-offered : goal.returns-clause-offered
 returns-clause-offered g c =
