@@ -7,3 +7,5 @@ mod EntryLemmas
 mod Paths
 -- Faults that are passed on from call to call. For `read_all`.
 mod Refusals
+-- Calls that change a file and may be planned to fail. For `MemShelf`.
+mod ShelfCalls
