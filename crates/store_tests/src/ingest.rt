@@ -1,6 +1,6 @@
 ghost use Rattle.shard_plan.specs.FewNames.{few_name, length-few_name};
 
-use crate::steps::{contained, container_is, made, restores, shelf_with, small_params};
+use crate::steps::{contained, container_is, made, made_with, restores, small_params};
 use chunk_names::{LengthNamer, Namer, Sha256Namer};
 use edge_traits::{File, MemShelf, MemSource, ShelfFail, Source};
 use ingest_core::{IngestFault, Line, Summary, cuts_of_text, ingest, plan};
@@ -12,7 +12,7 @@ use sd_base::{
 use std::alloc::Global;
 use std::sync::atomic::{AtomicU64, Ordering};
 use std::thread::Threads;
-use store_core::{Store, StoreFault, init};
+use store_core::{Store, StoreFault};
 
 const HOW: How = How {
     workers: DEFAULT_WORKERS,
@@ -43,6 +43,20 @@ fn take_source<H: Threads + Sync, N: Namer>(
     Some(ingest(rt, alloc, source, shelf, namer, &name, &HOW))
 }
 
+/// How an input is taken in, if these reads fail.
+fn take_failing<H: Threads + Sync, N: Namer>(
+    rt: &H,
+    alloc: Global,
+    shelf: &mut MemShelf,
+    input: &[u8],
+    failing: &[u32],
+    namer: &N,
+    name: &[u8],
+) -> Option<Result<Summary, IngestFault>> {
+    let mut source = source_of(alloc, input, failing)?;
+    take_source(rt, alloc, &mut source, shelf, namer, name)
+}
+
 /// How an input is taken in.
 fn take_in<H: Threads + Sync, N: Namer>(
     rt: &H,
@@ -52,8 +66,7 @@ fn take_in<H: Threads + Sync, N: Namer>(
     namer: &N,
     name: &[u8],
 ) -> Option<Result<Summary, IngestFault>> {
-    let mut source = source_of(alloc, input, &[])?;
-    take_source(rt, alloc, &mut source, shelf, namer, name)
+    take_failing(rt, alloc, shelf, input, &[], namer, name)
 }
 
 /// Whether zeros are cut at these positions by three workers.
@@ -75,6 +88,15 @@ struct Counting {
     shares: AtomicU64,
 }
 
+impl Counting {
+    fn new() -> Counting {
+        Counting {
+            segments: AtomicU64::new(0),
+            shares: AtomicU64::new(0),
+        }
+    }
+}
+
 impl Gate for Counting {
     fn at(&self, stage: Stage, batch: u32, piece: u32) {
         if stage == Stage::Scan {
@@ -86,20 +108,29 @@ impl Gate for Counting {
     }
 }
 
-/// The plan of zeros, if the numbers are in their ranges.
-fn plan_of_zeros<H: Threads + Sync>(
+/// Whether the plan of a text has these lines, if the numbers are in their ranges.
+fn plan_is<H: Threads + Sync, N: Namer>(
     rt: &H,
     alloc: Global,
-    segment: u32,
-    workers: u32,
+    params: &Params,
+    text: &[u8],
+    (segment, workers): (u32, u32),
+    namer: &N,
     gate: &Counting,
-) -> Option<Vec<Line>> {
-    if segment == 0 || segment > MAX_SEGMENT || workers == 0 || workers > MAX_WORKERS {
-        return None;
+    want: &[Line],
+) -> bool {
+    if text.len() > 200
+        || segment == 0
+        || segment > MAX_SEGMENT
+        || workers == 0
+        || workers > MAX_WORKERS
+    {
+        return false;
     }
-    let params = small_params()?;
-    let namer = &LengthNamer;
-    plan(rt, alloc, &params, ZEROS, segment, workers, namer, gate).ok()
+    match plan(rt, alloc, params, text, segment, workers, namer, gate) {
+        Ok(lines) => lines.as_slice() == want,
+        Err(_) => false,
+    }
 }
 
 fn line(offset: u32, length: u32, name: [u8; 32]) -> Line {
@@ -124,26 +155,31 @@ fn lines_of_zeros() -> [Line; 4] {
 
 /// Whether the plan of zeros has its lines, and so many segments and a share of names for each worker
 /// begin.
-fn plan_is_right<H: Threads + Sync>(
+fn plan_of_zeros_is_right<H: Threads + Sync>(
     rt: &H,
     alloc: Global,
     segment: u32,
     workers: u32,
     segments: u64,
-) -> Option<bool> {
-    let gate = Counting {
-        segments: AtomicU64::new(0),
-        shares: AtomicU64::new(0),
+) -> bool {
+    let Some(params) = small_params() else {
+        return false;
     };
-    let lines = plan_of_zeros(rt, alloc, segment, workers, &gate)?;
-    Some(
-        lines.as_slice() == lines_of_zeros().as_slice()
-            && gate.segments.load(Ordering::SeqCst) == segments
-            && gate.shares.load(Ordering::SeqCst) == u64::from(workers),
-    )
+    let (gate, want) = (Counting::new(), lines_of_zeros());
+    plan_is(
+        rt,
+        alloc,
+        &params,
+        ZEROS,
+        (segment, workers),
+        &LengthNamer,
+        &gate,
+        &want,
+    ) && gate.segments.load(Ordering::SeqCst) == segments
+        && gate.shares.load(Ordering::SeqCst) == u64::from(workers)
 }
 
-// 200 positions and the end are shared in segments.
+// The positions from 1 to 200 are shared in segments.
 #[test]
 fn a_plan_has_a_line_for_each_chunk_and_is_shared_by_its_workers(rt: HostRuntime) {
     for (segment, workers, segments) in [
@@ -154,33 +190,46 @@ fn a_plan_has_a_line_for_each_chunk_and_is_shared_by_its_workers(rt: HostRuntime
         (200, 64, 1),
         (199, 1, 2),
     ] {
-        let right = plan_is_right(&rt, rt.alloc(), segment, workers, segments);
-        assert!(rt; right == Some(true), "segment {segment}, workers {workers}");
+        assert!(rt;
+            plan_of_zeros_is_right(&rt, rt.alloc(), segment, workers, segments),
+            "{workers} workers"
+        );
     }
 }
 
-/// Whether the plan of `abc` under the defaults is one line.
-fn default_plan_is_a_line<H: Threads + Sync>(rt: &H, alloc: Global) -> Option<bool> {
-    let params = Params::new(
+fn default_params() -> Option<Params> {
+    Params::new(
         DEFAULT_POLYNOMIAL,
         DEFAULT_BITS,
         DEFAULT_TARGET,
         DEFAULT_MIN,
         DEFAULT_MAX,
-    );
-    let params = params.ok()?;
-    let (segment, workers) = (DEFAULT_SEGMENT, DEFAULT_WORKERS);
-    let namer = &Sha256Namer;
-    let lines = plan(
-        rt, alloc, &params, b"abc", segment, workers, namer, &OpenGate,
     )
-    .ok()?;
-    Some(lines.as_slice() == [line(0, 3, Sha256Namer.name(b"abc"))].as_slice())
+    .ok()
+}
+
+/// Whether the plan of `abc` under the defaults is one line.
+fn default_plan_is_a_line<H: Threads + Sync>(rt: &H, alloc: Global) -> bool {
+    let Some(params) = default_params() else {
+        return false;
+    };
+    let shares = (DEFAULT_SEGMENT, DEFAULT_WORKERS);
+    let (gate, want) = (Counting::new(), [line(0, 3, Sha256Namer.name(b"abc"))]);
+    plan_is(
+        rt,
+        alloc,
+        &params,
+        b"abc",
+        shares,
+        &Sha256Namer,
+        &gate,
+        &want,
+    )
 }
 
 #[test]
 fn a_short_input_is_one_line_under_the_defaults(rt: HostRuntime) {
-    assert!(rt; default_plan_is_a_line(&rt, rt.alloc()) == Some(true));
+    assert!(rt; default_plan_is_a_line(&rt, rt.alloc()));
 }
 
 /// What is answered of a session of so many bytes and chunks, of which so many chunks are new.
@@ -299,13 +348,13 @@ fn is_unsealed(shelf: &MemShelf) -> bool {
 /// Whether a read that fails ends an ingest, and no byte is committed or stored.
 fn failed_read_leaves_store<H: Threads + Sync>(rt: &H, alloc: Global) -> bool {
     let ends = Some(Err(IngestFault::SourceFault));
-    match (made(alloc, &[]), source_of(alloc, ZEROS, &[1])) {
-        (Some(mut shelf), Some(mut source)) => {
-            take_source(rt, alloc, &mut source, &mut shelf, &Sha256Namer, b"a") == ends
+    match made(alloc, &[]) {
+        Some(mut shelf) => {
+            take_failing(rt, alloc, &mut shelf, ZEROS, &[1], &Sha256Namer, b"a") == ends
                 && is_unsealed(&shelf)
                 && shelf.file(File::Container(0, 0)).is_empty()
         }
-        _ => false,
+        None => false,
     }
 }
 
@@ -376,9 +425,7 @@ fn drawn_input(state: &mut u32) -> [u8; 1800] {
 
 /// A shelf with a store of no sessions with these parameters.
 fn drawn_shelf(alloc: Global) -> Option<MemShelf> {
-    let mut shelf = shelf_with(alloc, &[])?;
-    init(alloc, &mut shelf, &drawn_params()?).ok()?;
-    Some(shelf)
+    made_with(alloc, &[], &drawn_params()?)
 }
 
 /// Where the chunks of a drawn input end.
@@ -391,12 +438,14 @@ fn drawn_cuts<H: Threads + Sync>(rt: &H, alloc: Global, input: &[u8; 1800]) -> O
 
 /// The bytes of the chunk at a place.
 fn chunk_at<'a>(input: &'a [u8], cuts: &[u32], place: usize) -> Option<&'a [u8]> {
-    let end = *cuts.get(place)? as usize;
-    let start = match place.checked_sub(1) {
-        Some(before) => *cuts.get(before)? as usize,
-        None => 0,
+    let start = match place {
+        0 => Some(&0),
+        _ => cuts.get(place - 1),
     };
-    input.get(start..end)
+    match (start, cuts.get(place)) {
+        (Some(start), Some(end)) => input.get(*start as usize..*end as usize),
+        _ => None,
+    }
 }
 
 /// The first place of a chunk with the bytes of the one at a place.
@@ -436,9 +485,8 @@ fn numbers_chunks(store: &Store<FewNamer>, input: &[u8], cuts: &[u32], fresh: u3
     }
 }
 
-/// Whether a store that is opened for it is so, has fewer different chunks than places, and restores
-/// the session.
-fn repeats_are_numbered(
+/// The same of a store that is opened for it.
+fn numbers_chunks_anew(
     alloc: Global,
     shelf: &mut MemShelf,
     input: &[u8],
@@ -446,16 +494,12 @@ fn repeats_are_numbered(
     fresh: u32,
 ) -> bool {
     match Store::open(alloc, shelf, FewNamer) {
-        Ok(store) => {
-            (fresh as usize) < cuts.len()
-                && numbers_chunks(&store, input, cuts, fresh)
-                && restores(alloc, &store, shelf, &[], b"a", input, Ok(()))
-        }
+        Ok(store) => numbers_chunks(&store, input, cuts, fresh),
         Err(_) => false,
     }
 }
 
-/// Whether the repeats in an input are numbered so, and the input comes back.
+/// Whether the repeats in an input are numbered so, there are some, and the input comes back.
 fn numbers_repeats<H: Threads + Sync>(
     rt: &H,
     alloc: Global,
@@ -464,15 +508,31 @@ fn numbers_repeats<H: Threads + Sync>(
     cuts: &[u32],
 ) -> bool {
     match take_in(rt, alloc, shelf, input, &FewNamer, b"a") {
-        Some(Ok(taken)) => repeats_are_numbered(alloc, shelf, input, cuts, taken.fresh),
+        Some(Ok(taken)) => {
+            (taken.fresh as usize) < cuts.len()
+                && numbers_chunks_anew(alloc, shelf, input, cuts, taken.fresh)
+                && comes_back(alloc, shelf, FewNamer, b"a", input)
+        }
         _ => false,
     }
 }
 
+fn numbers_repeats_on<H: Threads + Sync>(
+    rt: &H,
+    alloc: Global,
+    shelf: &mut MemShelf,
+    input: &[u8; 1800],
+) -> bool {
+    match drawn_cuts(rt, alloc, input) {
+        Some(cuts) => numbers_repeats(rt, alloc, shelf, input, &cuts),
+        None => false,
+    }
+}
+
 fn numbers_drawn_repeats<H: Threads + Sync>(rt: &H, alloc: Global, input: &[u8; 1800]) -> bool {
-    match (drawn_shelf(alloc), drawn_cuts(rt, alloc, input)) {
-        (Some(mut shelf), Some(cuts)) => numbers_repeats(rt, alloc, &mut shelf, input, &cuts),
-        _ => false,
+    match drawn_shelf(alloc) {
+        Some(mut shelf) => numbers_repeats_on(rt, alloc, &mut shelf, input),
+        None => false,
     }
 }
 
@@ -488,9 +548,21 @@ fn a_repeat_has_the_number_of_the_first_chunk_with_its_bytes(rt: HostRuntime) {
 /// Whether an input is taken in although this call fails.
 fn is_taken_in<H: Threads + Sync>(rt: &H, alloc: Global, call: u32, input: &[u8]) -> Option<bool> {
     match made(alloc, &[ShelfFail { call, kept: 0 }]) {
-        Some(mut shelf) => Some(take_in(rt, alloc, &mut shelf, input, &Sha256Namer, b"a")?.is_ok()),
+        Some(mut shelf) => match take_in(rt, alloc, &mut shelf, input, &Sha256Namer, b"a") {
+            Some(outcome) => Some(outcome.is_ok()),
+            None => None,
+        },
         None => None,
     }
+}
+
+/// Whether one chunk is taken in although this call fails. This chunk three times must end alike.
+fn both_end<H: Threads + Sync>(rt: &H, alloc: Global, call: u32) -> Option<bool> {
+    let is_taken = is_taken_in(rt, alloc, call, &[0; 64])?;
+    if is_taken_in(rt, alloc, call, &[0; 192])? != is_taken {
+        return None;
+    }
+    Some(is_taken)
 }
 
 // Each call of the shelf fails once, in an ingest of one chunk and in one of this chunk three times.
@@ -498,10 +570,12 @@ fn is_taken_in<H: Threads + Sync>(rt: &H, alloc: Global, call: u32, input: &[u8]
 #[test]
 fn a_repeat_costs_no_call_of_the_shelf(rt: HostRuntime) {
     for call in 13..40 {
-        let once = is_taken_in(&rt, rt.alloc(), call, &[0; 64]);
-        let thrice = is_taken_in(&rt, rt.alloc(), call, &[0; 192]);
-        assert!(rt; once.is_some() && once == thrice, "call {call} fails");
+        assert!(rt;
+            both_end(&rt, rt.alloc(), call).is_some(),
+            "call {call} fails"
+        );
     }
-    assert!(rt; is_taken_in(&rt, rt.alloc(), 13, &[0; 64]) == Some(false));
-    assert!(rt; is_taken_in(&rt, rt.alloc(), 39, &[0; 64]) == Some(true));
+    assert!(rt;
+        both_end(&rt, rt.alloc(), 13) == Some(false) && both_end(&rt, rt.alloc(), 39) == Some(true)
+    );
 }

@@ -47,11 +47,18 @@ pub(crate) fn shelf_with(alloc: Global, failing: &[ShelfFail]) -> Option<MemShel
     Some(MemShelf::new(alloc, Vec::from_slice(alloc, failing).ok()?))
 }
 
-/// A shelf with a store of no sessions, of which these calls fail.
-pub(crate) fn made(alloc: Global, failing: &[ShelfFail]) -> Option<MemShelf> {
+/// A shelf with a store of no sessions with these parameters, of which these calls fail.
+pub(crate) fn made_with(alloc: Global, failing: &[ShelfFail], params: &Params) -> Option<MemShelf> {
     let mut shelf = shelf_with(alloc, failing)?;
-    init(alloc, &mut shelf, &small_params()?).ok()?;
-    Some(shelf)
+    match init(alloc, &mut shelf, params) {
+        Ok(()) => Some(shelf),
+        Err(_) => None,
+    }
+}
+
+/// The same with the small parameters.
+pub(crate) fn made(alloc: Global, failing: &[ShelfFail]) -> Option<MemShelf> {
+    made_with(alloc, failing, &small_params()?)
 }
 
 pub(crate) fn opened(alloc: Global, shelf: &mut MemShelf) -> Option<Store<Sha256Namer>> {
@@ -174,17 +181,17 @@ fn drop_session(
     Some(store.drop_session(shelf, &Name::read(name).ok()?))
 }
 
-/// Whether a restore of a session ends so, after these bytes.
-fn restores_to<N: Namer>(
+/// Whether a restore of a session into a sink ends so, after these bytes.
+fn restores_into<N: Namer>(
     store: &Store<N>,
     shelf: &mut MemShelf,
-    mut sink: MemSink,
+    sink: &mut MemSink,
     name: &[u8],
     bytes: &[u8],
     ends: Result<(), StoreFault>,
 ) -> bool {
     match Name::read(name) {
-        Ok(name) => { store.restore(shelf, &mut sink, &name) == ends && sink.written() == bytes }
+        Ok(name) => store.restore(shelf, sink, &name) == ends && sink.written() == bytes,
         Err(_) => false,
     }
 }
@@ -201,14 +208,8 @@ pub(crate) fn restores<N: Namer>(
 ) -> bool {
     match Vec::from_slice(alloc, failing) {
         Ok(failing) => {
-            restores_to(
-                store,
-                shelf,
-                MemSink::new(alloc, failing),
-                name,
-                bytes,
-                ends,
-            )
+            let mut sink = MemSink::new(alloc, failing);
+            restores_into(store, shelf, &mut sink, name, bytes, ends)
         }
         Err(_) => false,
     }
