@@ -1,10 +1,11 @@
 -- What a call passes on of a call within it: what was done to a device, and a fault.
 use Rattle.std.proofs.Common.{◌≡◌, inl, inr, ℕ, ◌≤◌, arith, ap, refl, sym, ◌∙◌}
-use Rattle.std.specs.Prelude.{◌⊎◌, Bool, Err, IsErrAnd, List, Ok, OnErr, Option, Result}
+use Rattle.std.specs.Prelude.{◌⊎◌, Bool, Err, IfOk, IsErr, IsErrAnd, List, Ok, OnErr, Option, Result}
 use Rattle.edge_traits.specs.Faults.{Rose}
 use Rattle.edge_traits.specs.declared.fault.EdgeFault.{EdgeFault}
 use Rattle.edge_traits.specs.declared.fault.EdgeFault.TheVariants as edge
 use Rattle.sd_base.specs.declared.file.File.{File}
+use Rattle.store_core.specs.Commits.{OnlyFails}
 use Rattle.store_core.specs.Faults.{store_fault_of}
 use Rattle.store_core.specs.Shelves.{CountsFaults, OnlyReads}
 use Rattle.store_core.specs.declared.fault.StoreFault.{StoreFault}
@@ -14,6 +15,18 @@ use Rattle.store_core.proofs.OpeningLemmas.{err-is}
 rose-later : (a b c : ℕ) → a ≤ b → Rose b c → Rose a c
 rose-later a b c le (inl more) = inl (omega arith)
 rose-later a b c le (inr most) = inr most
+
+-- the facts of one call
+pub counts-of : {F p : Type 0} (faults : F → ℕ) (faultless : F → Type 0) (a b : F) → (p → Rose (faults a) (faults b)) →
+    faults a ≤ faults b → (faultless a → p → ⊥) → (faultless a → faults b ≡ faults a) → (faultless a → faultless b) →
+    CountsFaults p faults faultless a b
+counts-of faults faultless a b failed never_falls serves counts_none stays = record {
+  failed = failed;
+  never_falls = never_falls;
+  faultless_serves = serves;
+  faultless_counts_none = counts_none;
+  stays_faultless = stays;
+}
 
 module _ {F : Type 0} {faults : F → ℕ} {faultless : F → Type 0} where
   -- a call that fails only if the other did
@@ -70,6 +83,11 @@ module _ {F : Type 0} {faults : F → ℕ} {faultless : F → Type 0} where
 
 -- ---- a fault that is passed on by `?`
 
+-- after a fault nothing is said of a value
+pub none-ok : {T : Type 0} (P : T → Type 0) (r : Result T StoreFault) → IsErr r → IfOk r P
+none-ok P (Ok x) is = absurd cc
+none-ok P (Err e) is = tt
+
 -- that of another call of the store
 pub passed-is : {T : Type 0} (fault : StoreFault) (r : Result T StoreFault) → IsErrAnd r (λ e. e ≡ fault) → r ≡ Err fault
 passed-is fault (Ok x) same = absurd same
@@ -88,6 +106,12 @@ sink-unfailed (Err e) (inl sink) is = let clash = sym sink ∙ is in absurd cc
 sink-unfailed (Err e) (inr memory) is = let clash = sym memory ∙ is in absurd cc
 
 -- that of a shelf
+pub edge-passed : {S T : Type 0} {other : EdgeFault} (fault : EdgeFault) (r : Result T EdgeFault) → IsErrAnd r (λ e. e ≡ fault) →
+    r ≡ Err other → ◌≡◌ {A = Result S EdgeFault} (Err fault) (Err other)
+edge-passed fault (Ok x) same is = absurd same
+edge-passed {S = S} {other = other} fault (Err e) same is =
+    let found : e ≡ other = cc in ap (λ f. let r : Result S EdgeFault = Err f in r) (sym same ∙ found)
+
 pub edge-failed : {S T : Type 0} (fault : EdgeFault) (r : Result T StoreFault) → IsErrAnd r (λ e. e ≡ store_fault_of fault) →
     r ≡ Err store.ShelfFault → ◌≡◌ {A = Result S EdgeFault} (Err fault) (Err edge.Failed)
 edge-failed edge.Failed r same is = refl
@@ -98,6 +122,10 @@ pub memory-is : {T : Type 0} (r : Result T StoreFault) (fault : StoreFault) → 
     r ≡ Err fault → fault ≡ store.OutOfMemory
 memory-is (Ok x) fault same is = absurd same
 memory-is (Err e) fault same is = sym (err-is is) ∙ same
+
+pub memory-fails : {T : Type 0} (r : Result T StoreFault) → IsErrAnd r (λ e. e ≡ store.OutOfMemory) → OnErr r (OnlyFails r)
+memory-fails (Ok x) same = absurd same
+memory-fails {T = T} (Err e) same = inr (ap (λ f. let r : Result T StoreFault = Err f in r) same)
 
 pub memory-unfailed : {T : Type 0} (r : Result T StoreFault) → IsErrAnd r (λ e. e ≡ store.OutOfMemory) → r ≡ Err store.ShelfFault → ⊥
 memory-unfailed r same is = let clash = memory-is r store.ShelfFault same is in absurd cc

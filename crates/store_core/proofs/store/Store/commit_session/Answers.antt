@@ -1,4 +1,4 @@
-use Rattle.std.proofs.Common.{◌≡◌, ◌++◌, ◌≤◌, arith, inl, ap, subst, sym, ◌∙◌, length}
+use Rattle.std.proofs.Common.{rules, ◌≡◌, ◌++◌, ◌≤◌, arith, inl, ap, subst, sym, ◌∙◌, length}
 use Rattle.std.specs.List.{All}
 use Rattle.container_pack.specs.Packer.{IsUnflushed}
 use Rattle.container_pack.proofs.PackerLemmas.{on_err}
@@ -13,21 +13,9 @@ use Rattle.store_core.specs.Recipes.{IsInOrder}
 use Rattle.store_core.specs.StoreStates.{StoreState, chunks_of_store}
 use Rattle.store_core.proofs.CommitLemmas.{room-in}
 use Rattle.store_core.proofs.CountLemmas.{committed-counted, counted-room, reserved-counted, reserved-known}
-use Rattle.store_core.proofs.Passing.{counts-as, counts-none, edge-failed, memory-unfailed}
+use Rattle.store_core.proofs.Passing.{counts-as, counts-none, edge-failed, memory-fails, memory-unfailed, none-ok}
 use Rattle.store_core.proofs.SessionLemmas.{nothing-committed, placed-committed, session-follows, session-within, committed-unflushed, offered-flushed}
 use Rattle.store_core.proofs.store.Store.commit_session.Goals as goal
-
-pub returns-in_err-session_record-clause-not_written : goal.returns-in_err-session_record-clause-not_written
-returns-in_err-session_record-clause-not_written g c = on_err c.from_residual.result (inl (nothing-committed _ _ _))
-
-pub returns-in_err-bytes-clause-not_written : goal.returns-in_err-bytes-clause-not_written
-returns-in_err-bytes-clause-not_written g c = on_err c.from_residual-in_err-bytes.result (inl (nothing-committed _ _ _))
-
-pub returns-in_err-add-clause-not_written : goal.returns-in_err-add-clause-not_written
-returns-in_err-add-clause-not_written g c = on_err c.from_residual-in_err-add.result (inl (nothing-committed _ _ _))
-
-pub returns-in_err-reserve-clause-not_written : goal.returns-in_err-reserve-clause-not_written
-returns-in_err-reserve-clause-not_written g c = on_err c.from_residual-in_err-reserve.result (inl (nothing-committed _ _ _))
 
 pub encode_record-requires : goal.encode_record-requires
 encode_record-requires g c =
@@ -147,18 +135,6 @@ returns-clause-flushed g c =
     (subst (λ (s : StoreState). AreFlushed s.opened.head.generation (IsUnflushed inside.packer) loose)
     c.self.view_is c.in_ok-commit_bytes.ensures.flushed)
 
-pub returns-in_err-session_record-clause-counts : goal.returns-in_err-session_record-clause-counts
-returns-in_err-session_record-clause-counts g c = counts-none (memory-unfailed c.from_residual.result c.from_residual.ensures.1)
-
-pub returns-in_err-bytes-clause-counts : goal.returns-in_err-bytes-clause-counts
-returns-in_err-bytes-clause-counts g c = counts-none (memory-unfailed c.from_residual-in_err-bytes.result c.from_residual-in_err-bytes.ensures.1)
-
-pub returns-in_err-reserve-clause-counts : goal.returns-in_err-reserve-clause-counts
-returns-in_err-reserve-clause-counts g c = counts-none (memory-unfailed c.from_residual-in_err-reserve.result c.from_residual-in_err-reserve.ensures.1)
-
-pub returns-in_err-add-clause-counts : goal.returns-in_err-add-clause-counts
-returns-in_err-add-clause-counts g c = counts-none (memory-unfailed c.from_residual-in_err-add.result c.from_residual-in_err-add.ensures.1)
-
 pub returns-in_err-commit_bytes-clause-counts : goal.returns-in_err-commit_bytes-clause-counts
 returns-in_err-commit_bytes-clause-counts g c = counts-as
     (edge-failed c.in_err-commit_bytes.field-0.0 c.from_residual-in_err-commit_bytes.result c.from_residual-in_err-commit_bytes.ensures.1)
@@ -166,3 +142,63 @@ returns-in_err-commit_bytes-clause-counts g c = counts-as
 
 pub returns-clause-counts : goal.returns-clause-counts
 returns-clause-counts g c = counts-as (λ is. absurd cc) c.commit_bytes.ensures.counts
+
+pub returns-in_err-session_record : goal.returns-in_err-session_record
+returns-in_err-session_record g c = record {
+  number = none-ok _ c.from_residual.result c.from_residual.ensures.0;
+  committed = none-ok _ c.from_residual.result c.from_residual.ensures.0;
+  written = none-ok _ c.from_residual.result c.from_residual.ensures.0;
+  flushed = none-ok _ c.from_residual.result c.from_residual.ensures.0;
+  sealed = none-ok _ c.from_residual.result c.from_residual.ensures.0;
+  lawful = none-ok _ c.from_residual.result c.from_residual.ensures.0;
+  refused = memory-fails c.from_residual.result c.from_residual.ensures.1;
+  not_written = on_err c.from_residual.result (inl (nothing-committed _ _ _));
+  head = search rules;
+  limit = search rules;
+  counts = counts-none (memory-unfailed c.from_residual.result c.from_residual.ensures.1);
+}
+
+pub returns-in_err-bytes : goal.returns-in_err-bytes
+returns-in_err-bytes g c = record {
+  number = none-ok _ c.from_residual-in_err-bytes.result c.from_residual-in_err-bytes.ensures.0;
+  committed = none-ok _ c.from_residual-in_err-bytes.result c.from_residual-in_err-bytes.ensures.0;
+  written = none-ok _ c.from_residual-in_err-bytes.result c.from_residual-in_err-bytes.ensures.0;
+  flushed = none-ok _ c.from_residual-in_err-bytes.result c.from_residual-in_err-bytes.ensures.0;
+  sealed = none-ok _ c.from_residual-in_err-bytes.result c.from_residual-in_err-bytes.ensures.0;
+  lawful = none-ok _ c.from_residual-in_err-bytes.result c.from_residual-in_err-bytes.ensures.0;
+  refused = memory-fails c.from_residual-in_err-bytes.result c.from_residual-in_err-bytes.ensures.1;
+  not_written = on_err c.from_residual-in_err-bytes.result (inl (nothing-committed _ _ _));
+  head = search rules;
+  limit = search rules;
+  counts = counts-none (memory-unfailed c.from_residual-in_err-bytes.result c.from_residual-in_err-bytes.ensures.1);
+}
+
+pub returns-in_err-add : goal.returns-in_err-add
+returns-in_err-add g c = record {
+  number = none-ok _ c.from_residual-in_err-add.result c.from_residual-in_err-add.ensures.0;
+  committed = none-ok _ c.from_residual-in_err-add.result c.from_residual-in_err-add.ensures.0;
+  written = none-ok _ c.from_residual-in_err-add.result c.from_residual-in_err-add.ensures.0;
+  flushed = none-ok _ c.from_residual-in_err-add.result c.from_residual-in_err-add.ensures.0;
+  sealed = none-ok _ c.from_residual-in_err-add.result c.from_residual-in_err-add.ensures.0;
+  lawful = none-ok _ c.from_residual-in_err-add.result c.from_residual-in_err-add.ensures.0;
+  refused = memory-fails c.from_residual-in_err-add.result c.from_residual-in_err-add.ensures.1;
+  not_written = on_err c.from_residual-in_err-add.result (inl (nothing-committed _ _ _));
+  head = search rules;
+  limit = search rules;
+  counts = counts-none (memory-unfailed c.from_residual-in_err-add.result c.from_residual-in_err-add.ensures.1);
+}
+
+pub returns-in_err-reserve : goal.returns-in_err-reserve
+returns-in_err-reserve g c = record {
+  number = none-ok _ c.from_residual-in_err-reserve.result c.from_residual-in_err-reserve.ensures.0;
+  committed = none-ok _ c.from_residual-in_err-reserve.result c.from_residual-in_err-reserve.ensures.0;
+  written = none-ok _ c.from_residual-in_err-reserve.result c.from_residual-in_err-reserve.ensures.0;
+  flushed = none-ok _ c.from_residual-in_err-reserve.result c.from_residual-in_err-reserve.ensures.0;
+  sealed = none-ok _ c.from_residual-in_err-reserve.result c.from_residual-in_err-reserve.ensures.0;
+  lawful = none-ok _ c.from_residual-in_err-reserve.result c.from_residual-in_err-reserve.ensures.0;
+  refused = memory-fails c.from_residual-in_err-reserve.result c.from_residual-in_err-reserve.ensures.1;
+  not_written = on_err c.from_residual-in_err-reserve.result (inl (nothing-committed _ _ _));
+  head = search rules;
+  limit = search rules;
+  counts = counts-none (memory-unfailed c.from_residual-in_err-reserve.result c.from_residual-in_err-reserve.ensures.1);
+}
