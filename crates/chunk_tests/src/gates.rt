@@ -8,16 +8,16 @@ use std::thread;
 
 /// Notes which of the first 64 pieces of a stage of batch 7 begin, one bit a piece, and counts its
 /// calls. A piece of a scan is held until all that are awaited are held, and so is a chunk as it is
-/// named, whose length is its bit. It is noted if one is held for too long, or if the piece with the
-/// number 0 or 1 has not begun when the chunk of length 1 or 2 is named.
+/// named, whose length is its bit. It is noted if one is held for too long, or if the piece with
+/// the number 0 or 1 has not begun when the chunk of length 1 or 2 is named.
 #[derive(Drop)]
 pub struct Watch {
-    pub stage: Stage,
-    pub awaited: u64,
-    pub pieces: AtomicU64,
-    pub calls: AtomicU64,
-    pub held: AtomicU64,
-    pub failed: AtomicBool,
+    stage: Stage,
+    awaited: u64,
+    pieces: AtomicU64,
+    calls: AtomicU64,
+    held: AtomicU64,
+    failed: AtomicBool,
 }
 
 impl Watch {

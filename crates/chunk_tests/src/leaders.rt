@@ -1,4 +1,4 @@
-ghost use Rattle.std.specs.Prelude.{◌≡◌, ◌<◌, ◌≤◌, length, IfSome};
+ghost use Rattle.std.specs.Prelude.{◌≡◌, ◌<◌, ◌≤◌, length};
 ghost use Rattle.sd_base.specs.Cutting.{RiseWithin};
 ghost use Rattle.sd_base.specs.declared.limits.TheConstants.{MAX_INPUT};
 ghost use Rattle.shard_plan.specs.FewNames.{front_name, length-front_name};
@@ -11,8 +11,8 @@ use shard_plan::{Items, ShardPlan, leaders_by_fold};
 use std::alloc::Global;
 use std::thread::Threads;
 
-/// Names bytes by their number modulo 3 in the first byte, so that most chunks share a name, and all
-/// names have the same key.
+/// Names bytes by their number modulo 3 in the first byte, so that most chunks share a name, and
+/// all names have the same key.
 #[derive(Clone, Copy)]
 struct FrontNamer;
 
@@ -123,8 +123,8 @@ fn one_region_has_all(alloc: Global, items: &Items<'_>) -> bool {
     }
 }
 
-/// Whether the chunks x, x, y and x have these leaders and the region of one shard, if their names are
-/// their lengths.
+/// Whether the chunks x, x, y and x have these leaders and the region of one shard, if their names
+/// are their lengths.
 fn letters_are_told_apart<H: Threads + Sync>(rt: &H, alloc: Global) -> bool {
     let text = b"xxyx".as_slice();
     let ends = [1, 2, 3, 4].as_slice();

@@ -1,5 +1,5 @@
-//! Tests of the crates that cut, name, compare, count and record chunks, by their public calls. They
-//! are in a crate of their own, so that none of these crates is proved again for them.
+//! Tests of the crates that cut, name, compare, count and record chunks, by their public calls.
+//! They are in a crate of their own, so that none of these crates is proved again for them.
 #![tactic(auto)]
 
 #[cfg(test)]

@@ -153,8 +153,8 @@ fn lines_of_zeros() -> [Line; 4] {
     ]
 }
 
-/// Whether the plan of zeros has its lines, and so many segments and a share of names for each worker
-/// begin.
+/// Whether the plan of zeros has its lines, and so many segments and a share of names for each
+/// worker begin.
 fn plan_of_zeros_is_right<H: Threads + Sync>(
     rt: &H,
     alloc: Global,
@@ -192,7 +192,7 @@ fn a_plan_has_a_line_for_each_chunk_and_is_shared_by_its_workers(rt: HostRuntime
     ] {
         assert!(rt;
             plan_of_zeros_is_right(&rt, rt.alloc(), segment, workers, segments),
-            "{workers} workers"
+            "segment {segment}, {workers} workers"
         );
     }
 }
@@ -247,8 +247,8 @@ fn summary(
     }))
 }
 
-/// Whether zeros are taken in as this session with so many new chunks, and container 0 has its header
-/// and the chunks of 64 and 8 zeros then.
+/// Whether zeros are taken in as this session with so many new chunks, and container 0 has its
+/// header and the chunks of 64 and 8 zeros then.
 fn takes_in_zeros<H: Threads + Sync>(
     rt: &H,
     alloc: Global,
@@ -312,8 +312,8 @@ fn two_chunks_twice() -> [u8; 256] {
     input
 }
 
-/// Whether these chunks are taken in, then the second and the third of them, two are stored, and both
-/// sessions come back. All chunks have the same name.
+/// Whether these chunks are taken in, then the second and the third of them, two are stored, and
+/// both sessions come back. All chunks have the same name.
 fn are_kept_apart_on<H: Threads + Sync>(
     rt: &H,
     alloc: Global,
@@ -363,7 +363,8 @@ fn a_failed_read_leaves_the_store(rt: HostRuntime) {
     assert!(rt; failed_read_leaves_store(&rt, rt.alloc()));
 }
 
-/// Whether this call fails in an ingest, no byte is committed, and the next ingest is the first one.
+/// Whether this call fails in an ingest, no byte is committed, and the next ingest is the first
+/// one.
 fn failed_write_leaves_store<H: Threads + Sync>(rt: &H, alloc: Global, call: u32) -> bool {
     let ends = Some(Err(IngestFault::Store(StoreFault::ShelfFault)));
     match made(alloc, &[ShelfFail { call, kept: 0 }]) {
@@ -458,8 +459,8 @@ fn first_same(input: &[u8], cuts: &[u32], place: usize) -> usize {
     place
 }
 
-/// How many different chunks an input has, if a recipe gives each place its number: that of the first
-/// place with its bytes, or the next one if it is the first.
+/// How many different chunks an input has, if a recipe gives each place its number: that of the
+/// first place with its bytes, or the next one if it is the first.
 fn different_chunks(input: &[u8], cuts: &[u32], recipe: &[u32]) -> Option<u32> {
     let mut next = 0u32;
     for (place, number) in recipe.iter().enumerate() {
@@ -473,8 +474,8 @@ fn different_chunks(input: &[u8], cuts: &[u32], recipe: &[u32]) -> Option<u32> {
     Some(next)
 }
 
-/// Whether the first session of a store has a place for each chunk, numbered so, and so many different
-/// chunks.
+/// Whether the first session of a store has a place for each chunk, numbered so, and so many
+/// different chunks.
 fn numbers_chunks(store: &Store<FewNamer>, input: &[u8], cuts: &[u32], fresh: u32) -> bool {
     match store.book().session(0) {
         Some(entry) => {
@@ -565,8 +566,8 @@ fn both_end<H: Threads + Sync>(rt: &H, alloc: Global, call: u32) -> Option<bool>
     Some(is_taken)
 }
 
-// Each call of the shelf fails once, in an ingest of one chunk and in one of this chunk three times.
-// The calls begin with one that the ingests make, and reach past their last one.
+// Each call of the shelf fails once, in an ingest of one chunk and in one of this chunk three
+// times. The calls begin with one that the ingests make, and reach past their last one.
 #[test]
 fn a_repeat_costs_no_call_of_the_shelf(rt: HostRuntime) {
     for call in 13..40 {

@@ -1,5 +1,5 @@
-//! Tests of the store of `store_core` and of taking in by `ingest_core`, by their public calls. They
-//! are in a crate of their own, so that neither crate is proved again for them.
+//! Tests of the store of `store_core` and of taking in by `ingest_core`, by their public calls.
+//! They are in a crate of their own, so that neither crate is proved again for them.
 #![tactic(auto)]
 
 #[cfg(test)]

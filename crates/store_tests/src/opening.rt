@@ -38,8 +38,8 @@ fn opens_empty(alloc: Global, shelf: &mut MemShelf, params: &Params) -> bool {
     }
 }
 
-/// Whether a store is made where there is none, is new then, and opens empty after it was refused to be
-/// made again.
+/// Whether a store is made where there is none, is new then, and opens empty after it was refused
+/// to be made again.
 fn makes_once(alloc: Global, shelf: &mut MemShelf, params: &Params) -> bool {
     opened(alloc, shelf) == Some(StoreFault::NoStore)
         && init(alloc, shelf, params) == Ok(())
@@ -191,8 +191,8 @@ fn a_failing_call_is_a_fault_of_the_shelf(rt: HostRuntime) {
     }
 }
 
-/// Whether making a store ends in a fault of the shelf, and leaves so many bytes of the head and the
-/// seal loose or not.
+/// Whether making a store ends in a fault of the shelf, and leaves so many bytes of the head and
+/// the seal loose or not.
 fn making_leaves(alloc: Global, shelf: &mut MemShelf, head: usize, loose: bool) -> bool {
     match small_params() {
         Some(params) => {

@@ -16,8 +16,8 @@ use store_core::{Store, StoreFault, init};
 /// The header of container 0.
 const HEADER: &[u8] = b"SSCP\0\0\0\0";
 
-/// The bytes of the chunk of a letter: `A`, `B`, `C` of the length of `A`, `Z` of 64 zeros, and `z` of
-/// 8.
+/// The bytes of the chunk of a letter: `A`, `B`, `C` of the length of `A`, `Z` of 64 zeros, and `z`
+/// of 8.
 pub(crate) fn chunk_of(letter: u8) -> &'static [u8] {
     match letter {
         b'A' => &[1; 64],
@@ -150,8 +150,8 @@ fn commit(
     Some(store.commit(shelf, &Name::read(name).ok()?, length, recipe))
 }
 
-/// How a session of these chunks is taken in: they are offered in turn up to the first fault, and then
-/// committed.
+/// How a session of these chunks is taken in: they are offered in turn up to the first fault, and
+/// then committed.
 pub(crate) fn take_in(
     alloc: Global,
     store: &mut Store<Sha256Namer>,
@@ -298,7 +298,8 @@ fn call_goes_well(
     }
 }
 
-/// Whether chunks from 0 on have the counts of these digits. A chunk that was not committed has `-`.
+/// Whether chunks from 0 on have the counts of these digits. A chunk that was not committed has
+/// `-`.
 fn counts_are(store: &Store<Sha256Namer>, digits: &str) -> bool {
     let mut number = 0u32;
     for digit in digits.as_bytes() {
