@@ -13,11 +13,11 @@ pub(crate) struct Plan {
     /// The syncs of files and folders that were made.
     pub(crate) syncs: AtomicU64,
     /// The sync that fails, counted from 1.
-    failing_sync: u64,
+    pub(crate) failing_sync: AtomicU64,
     /// How many of the next reads and writes are interrupted.
     pub(crate) interruptions: AtomicU64,
     /// The length to which no file can be cut.
-    failing_length: u64,
+    pub(crate) failing_length: AtomicU64,
 }
 
 impl Plan {
@@ -25,30 +25,15 @@ impl Plan {
     pub(crate) fn new() -> Self {
         Plan {
             syncs: AtomicU64::new(0),
-            failing_sync: 0,
+            failing_sync: AtomicU64::new(0),
             interruptions: AtomicU64::new(0),
-            failing_length: u64::MAX,
-        }
-    }
-
-    /// One sync fails.
-    pub(crate) fn failing_sync(number: u64) -> Self {
-        Plan {
-            failing_sync: number,
-            ..Plan::new()
-        }
-    }
-
-    /// Each cut to this length fails.
-    pub(crate) fn failing_cut(length: u64) -> Self {
-        Plan {
-            failing_length: length,
-            ..Plan::new()
+            failing_length: AtomicU64::new(u64::MAX),
         }
     }
 
     fn sync(&self) -> io::Result<()> {
-        if self.syncs.fetch_add(1, SeqCst).wrapping_add(1) == self.failing_sync {
+        let number = self.syncs.fetch_add(1, SeqCst).wrapping_add(1);
+        if number == self.failing_sync.load(SeqCst) {
             return Err(ErrorKind::Other.into());
         }
         Ok(())
@@ -126,7 +111,7 @@ impl OpenFile for FaultyFile<'_> {
     }
 
     fn set_len(&self, size: u64) -> io::Result<()> {
-        if size == self.plan.failing_length {
+        if size == self.plan.failing_length.load(SeqCst) {
             return Err(ErrorKind::Other.into());
         }
         self.file.set_len(size)

@@ -1,28 +1,111 @@
 use crate::faulty_files::{Faulty, Plan};
-use crate::shelf_steps::{Wrong, bytes_of, file_of, first_word, follow, returns};
+use crate::shelf_steps::{bytes_of, file_of, first_word, number_of, returns};
 use edge_traits::{File, FolderShelf, Shelf};
-use sd_base::OutOfMemory;
+use std::fs;
 use std::os::unix::fs::symlink;
 use std::sync::atomic::Ordering::SeqCst;
 use std::test::Fail;
-use std::{fs, io};
 
-fn make_folder(rt: HostRuntime, folder: &str) -> Result<(), Wrong> {
-    is_made(fs::create_dir(&rt, folder))
+// Scripts of a shelf of a folder. Besides the calls on a file there are these steps:
+//
+//   folder odd              a folder is made
+//   file left/head ab       a file is made that has these bytes
+//   link odd/head seal.0    a link is made, to this
+//   on_disk left/head ab    a file has these bytes on disk
+//   absent odd              there is no file and no folder of this name
+//   each len 0              a call on each of the six `FILES` in turn
+//   failing_sync 2          the sync of this number will fail, counted from 1
+//   failing_cut 3           no file can be cut to this length
+//   interruptions 64        so many of the next reads and writes are interrupted
+//   interruptions_left 0    so many of them are left
+//   syncs 2                 so many syncs were made so far
+
+/// What the steps show, the folder, and the steps.
+type Script = (&'static str, &'static str, &'static str);
+
+// Containers 3 and 67 share a place in the table.
+static FILES: [File; 6] = [
+    File::Head,
+    File::Seal(4_294_967_295),
+    File::Book(10),
+    File::Container(0, 3),
+    File::Container(0, 67),
+    File::Container(1, 3),
+];
+
+/// Follows a script on a shelf of a folder of the system's files.
+fn follow(rt: HostRuntime, script: &Script) -> Result<(), Fail> {
+    let mut shelf = FolderShelf::new(rt, rt.alloc(), script.1)?;
+    follow_on(rt, &Plan::new(), &mut shelf, script)
 }
 
-fn make_file(rt: HostRuntime, path: &str, bytes: &[u8]) -> Result<(), Wrong> {
-    is_made(fs::write(&rt, path, bytes))
+/// Follows a script on a shelf of a folder of files with which things go wrong as planned.
+fn follow_faulty(rt: HostRuntime, script: &Script) -> Result<(), Fail> {
+    let plan = Plan::new();
+    let mut shelf = FolderShelf::new(Faulty { rt, plan: &plan }, rt.alloc(), script.1)?;
+    follow_on(rt, &plan, &mut shelf, script)
 }
 
-fn make_link(rt: HostRuntime, original: &str, path: &str) -> Result<(), Wrong> {
-    is_made(symlink(&rt, original, path))
+/// The first step that does not go as it has to is the failure: the title, and the line, counted
+/// from 0.
+fn follow_on<S: Shelf>(
+    rt: HostRuntime,
+    plan: &Plan,
+    shelf: &mut S,
+    script: &Script,
+) -> Result<(), Fail> {
+    for (number, line) in script.2.lines().enumerate() {
+        let step = line.trim();
+        if !step.is_empty() && !goes_well(rt, plan, shelf, step) {
+            return Err(Fail::from((script.0, number)));
+        }
+    }
+    Ok(())
 }
 
-fn is_made(made: io::Result<()>) -> Result<(), Wrong> {
-    match made {
-        Ok(()) => Ok(()),
-        Err(_) => Err(Wrong::NotMade),
+fn goes_well<S: Shelf>(rt: HostRuntime, plan: &Plan, shelf: &mut S, step: &str) -> bool {
+    let (word, rest) = first_word(step);
+    if let Some(file) = file_of(word) {
+        return returns(shelf, file, rest);
+    }
+    match word {
+        "each" => all_return(shelf, rest),
+        "failing_sync" | "failing_cut" | "interruptions" | "interruptions_left" | "syncs" => {
+            is_planned(plan, word, number_of(rest))
+        }
+        _ => is_on_disk(rt, word, rest),
+    }
+}
+
+fn all_return<S: Shelf>(shelf: &mut S, step: &str) -> bool {
+    for file in &FILES {
+        if !returns(shelf, *file, step) {
+            return false;
+        }
+    }
+    true
+}
+
+fn is_planned(plan: &Plan, word: &str, number: u64) -> bool {
+    match word {
+        "failing_sync" => plan.failing_sync.store(number, SeqCst),
+        "failing_cut" => plan.failing_length.store(number, SeqCst),
+        "interruptions" => plan.interruptions.store(number, SeqCst),
+        "interruptions_left" => return plan.interruptions.load(SeqCst) == number,
+        _ => return plan.syncs.load(SeqCst) == number,
+    }
+    true
+}
+
+fn is_on_disk(rt: HostRuntime, word: &str, rest: &str) -> bool {
+    let (path, rest) = first_word(rest);
+    match word {
+        "folder" => fs::create_dir(&rt, path).is_ok(),
+        "file" => fs::write(&rt, path, bytes_of(rest)).is_ok(),
+        "link" => symlink(&rt, rest, path).is_ok(),
+        "on_disk" => has_file(rt, path, bytes_of(rest)),
+        "absent" => !fs::exists(&rt, path).unwrap_or(true),
+        _ => false,
     }
 }
 
@@ -33,296 +116,153 @@ fn has_file(rt: HostRuntime, path: &str, bytes: &[u8]) -> bool {
     }
 }
 
-/// Follows these steps on a shelf of a new folder, of which the calls of the system go wrong as
-/// planned. There are three more kinds of steps: `syncs 2` (so many syncs were made so far),
-/// `on_disk head ab` (a file has these bytes on disk), and `interrupted 64` before a call on the
-/// head (so many of the next reads and writes are interrupted, and then none is left).
-fn play(rt: HostRuntime, plan: Plan, folder: &str, steps: &str) -> Result<(), Fail> {
-    make_folder(rt, folder)?;
-    play_in(rt, &plan, folder, steps)?;
-    Ok(())
-}
-
-/// The same with a file that an earlier run left in the folder.
-fn play_after(
-    rt: HostRuntime,
-    plan: Plan,
-    folder: &str,
-    path: &str,
-    bytes: &[u8],
-    steps: &str,
-) -> Result<(), Fail> {
-    make_left(rt, folder, path, bytes)?;
-    play_in(rt, &plan, folder, steps)?;
-    Ok(())
-}
-
-fn make_left(rt: HostRuntime, folder: &str, path: &str, bytes: &[u8]) -> Result<(), Wrong> {
-    make_folder(rt, folder)?;
-    make_file(rt, path, bytes)
-}
-
-fn play_in(rt: HostRuntime, plan: &Plan, folder: &str, steps: &str) -> Result<(), Wrong> {
-    let mut shelf = FolderShelf::new(Faulty { rt, plan }, rt.alloc(), folder)?;
-    follow_all(rt, plan, &mut shelf, steps)
-}
-
-fn follow_all<S: Shelf>(
-    rt: HostRuntime,
-    plan: &Plan,
-    shelf: &mut S,
-    steps: &str,
-) -> Result<(), Wrong> {
-    for (number, line) in steps.lines().enumerate() {
-        let step = line.trim();
-        if !step.is_empty() && !goes_well(rt, plan, shelf, step) {
-            return Err(Wrong::Line(number));
-        }
-    }
-    Ok(())
-}
-
-fn goes_well<S: Shelf>(rt: HostRuntime, plan: &Plan, shelf: &mut S, step: &str) -> bool {
-    let (word, rest) = first_word(step);
-    match word {
-        "syncs" => rest.parse::<u64>() == Ok(plan.syncs.load(SeqCst)),
-        "interrupted" => is_interrupted(plan, shelf, rest),
-        "on_disk" => is_on_disk(rt, rest),
-        _ => returns_on(shelf, word, rest),
-    }
-}
-
-fn returns_on<S: Shelf>(shelf: &mut S, name: &str, step: &str) -> bool {
-    match file_of(name) {
-        Some(file) => returns(shelf, file, step),
-        None => false,
-    }
-}
-
-fn is_interrupted<S: Shelf>(plan: &Plan, shelf: &mut S, step: &str) -> bool {
-    let (times, step) = first_word(step);
-    match times.parse::<u64>() {
-        Ok(times) => {
-            plan.interruptions.store(times, SeqCst);
-            returns(shelf, File::Head, step) && plan.interruptions.load(SeqCst) == 0
-        }
-        Err(_) => false,
-    }
-}
-
-fn is_on_disk(rt: HostRuntime, step: &str) -> bool {
-    let (path, bytes) = first_word(step);
-    has_file(rt, path, bytes_of(bytes))
-}
-
-// These use the system's files alone.
-
-fn shelf_in(rt: HostRuntime, folder: &str) -> Result<FolderShelf<HostRuntime>, OutOfMemory> {
-    FolderShelf::new(rt, rt.alloc(), folder)
-}
-
-/// Makes these calls on one file of a folder.
-fn follow_in(rt: HostRuntime, folder: &str, file: File, steps: &str) -> Result<(), Wrong> {
-    let mut shelf = shelf_in(rt, folder)?;
-    follow(&mut shelf, file, steps)
-}
-
-/// Makes these calls on each of the files in turn.
-fn follow_each<S: Shelf>(shelf: &mut S, steps: &str) -> Result<(), Wrong> {
-    for file in &FILES {
-        follow(shelf, *file, steps)?;
-    }
-    Ok(())
-}
-
-// Containers 3 and 67 share a place in the table.
-const FILES: [File; 6] = [
-    File::Head,
-    File::Seal(4_294_967_295),
-    File::Book(10),
-    File::Container(0, 3),
-    File::Container(0, 67),
-    File::Container(1, 3),
-];
-
-const PATHS: [&str; 6] = [
-    "bytes/head",
-    "bytes/seal.4294967295",
-    "bytes/book.10",
-    "bytes/container.0.3",
-    "bytes/container.0.67",
-    "bytes/container.1.3",
+static WITH_FILES: [Script; 5] = [
+    (
+        "what is appended and cut is on disk",
+        "bytes",
+        "
+        folder bytes
+        each len 0
+        each read 0 8 nothing
+        each append abcd done
+        each append ef done
+        each cut 9 done
+        each len 6
+        each cut 5 done
+        each append g done
+        each flush done
+        on_disk bytes/head abcdeg
+        on_disk bytes/seal.4294967295 abcdeg
+        on_disk bytes/book.10 abcdeg
+        on_disk bytes/container.0.3 abcdeg
+        on_disk bytes/container.0.67 abcdeg
+        on_disk bytes/container.1.3 abcdeg
+        ",
+    ),
+    (
+        // A file that is open for reading is appended to and cut.
+        "another shelf reads what was appended and cut",
+        "bytes",
+        "
+        each len 6
+        each read 3 8 deg
+        each read 6 8 nothing
+        each read 18446744073709551615 8 nothing
+        each append hi done
+        each cut 7 done
+        each len 7
+        each read 5 8 gh
+        ",
+    ),
+    (
+        "a folder that does not exist is not made",
+        "nowhere",
+        "
+        head len 0
+        head read 0 1 nothing
+        head cut 0 done
+        head flush done
+        head append a failed
+        head len 0
+        absent nowhere
+        ",
+    ),
+    (
+        "the folder with no name does not exist",
+        "",
+        "
+        head len 0
+        head read 0 1 nothing
+        head cut 0 done
+        head flush done
+        head append a failed
+        head len 0
+        ",
+    ),
+    (
+        "what is no regular file has failed",
+        "odd",
+        "
+        folder odd
+        folder odd/head
+        link odd/seal.0 seal.0
+        head len failed
+        head read 0 1 failed
+        head append a failed
+        head cut 0 failed
+        seal.0 len failed
+        seal.0 read 0 1 failed
+        seal.0 append a failed
+        seal.0 cut 0 failed
+        ",
+    ),
 ];
 
 #[test]
-fn another_shelf_reads_what_was_appended_and_cut(rt: HostRuntime) -> Result<(), Fail> {
-    use_two_shelves(rt)?;
-    Ok(())
-}
-
-fn use_two_shelves(rt: HostRuntime) -> Result<(), Wrong> {
-    make_folder(rt, "bytes")?;
-    append_and_cut(rt)?;
-    read_again(rt)
-}
-
-fn append_and_cut(rt: HostRuntime) -> Result<(), Wrong> {
-    let mut shelf = shelf_in(rt, "bytes")?;
-    let steps = "
-        len 0
-        read 0 8 nothing
-        append abcd done
-        append ef done
-        ";
-    follow_each(&mut shelf, steps)?;
-    cut_each(rt, &mut shelf)
-}
-
-fn cut_each<S: Shelf>(rt: HostRuntime, shelf: &mut S) -> Result<(), Wrong> {
-    for (file, path) in FILES.iter().zip(PATHS.iter()) {
-        cut_one(shelf, *file)?;
-        if !has_file(rt, *path, b"abcdeg") {
-            return Err(Wrong::OnDisk);
-        }
+fn a_folder_keeps_what_was_appended_and_cut(rt: HostRuntime) -> Result<(), Fail> {
+    for script in &WITH_FILES {
+        follow(rt, script)?;
     }
     Ok(())
 }
 
-fn cut_one<S: Shelf>(shelf: &mut S, file: File) -> Result<(), Wrong> {
-    let steps = "
-        cut 9 done
-        len 6
-        cut 5 done
-        append g done
-        flush done
-        ";
-    follow(shelf, file, steps)
-}
-
-fn read_again(rt: HostRuntime) -> Result<(), Wrong> {
-    let mut shelf = shelf_in(rt, "bytes")?;
-    // A file that is open for reading is appended to and cut.
-    let steps = "
-        len 6
-        read 3 8 deg
-        read 6 8 nothing
-        read 18446744073709551615 8 nothing
-        append hi done
-        cut 7 done
-        len 7
-        read 5 8 gh
-        ";
-    follow_each(&mut shelf, steps)
-}
-
-#[test]
-fn a_folder_that_does_not_exist_is_not_made(rt: HostRuntime) -> Result<(), Fail> {
-    do_without_folders(rt)?;
-    Ok(())
-}
-
-fn do_without_folders(rt: HostRuntime) -> Result<(), Wrong> {
-    does_without_a_folder(rt, "nowhere")?;
-    does_without_a_folder(rt, "")?;
-    if exists(rt, "nowhere") {
-        return Err(Wrong::OnDisk);
-    }
-    Ok(())
-}
-
-fn does_without_a_folder(rt: HostRuntime, path: &str) -> Result<(), Wrong> {
-    let steps = "
-        len 0
-        read 0 1 nothing
-        cut 0 done
-        flush done
-        append a failed
-        len 0
-        ";
-    follow_in(rt, path, File::Head, steps)
-}
-
-fn exists(rt: HostRuntime, path: &str) -> bool {
-    fs::exists(&rt, path).unwrap_or(true)
-}
-
-#[test]
-fn what_is_no_regular_file_has_failed(rt: HostRuntime) -> Result<(), Fail> {
-    try_odd_files(rt)?;
-    Ok(())
-}
-
-fn try_odd_files(rt: HostRuntime) -> Result<(), Wrong> {
-    make_odd_files(rt)?;
-    fail_on_odd_files(rt)
-}
-
-fn make_odd_files(rt: HostRuntime) -> Result<(), Wrong> {
-    make_folder(rt, "odd")?;
-    make_folder(rt, "odd/head")?;
-    make_link(rt, "seal.0", "odd/seal.0")
-}
-
-fn fail_on_odd_files(rt: HostRuntime) -> Result<(), Wrong> {
-    let mut shelf = shelf_in(rt, "odd")?;
-    let steps = "
-        len failed
-        read 0 1 failed
-        append a failed
-        cut 0 failed
-        ";
-    follow(&mut shelf, File::Head, steps)?;
-    follow(&mut shelf, File::Seal(0), steps)
-}
-
-// The first sync is of the file, the second of the folder, and the third of the other file.
-#[test]
-fn a_failed_flush_is_never_taken_for_done(rt: HostRuntime) -> Result<(), Fail> {
-    fail_at_syncs(rt)?;
-    Ok(())
-}
-
-fn fail_at_syncs(rt: HostRuntime) -> Result<(), Wrong> {
-    make_folder(rt, "frail")?;
-    fail_at_sync(rt, 1, "head flush failed", "syncs 1")?;
-    fail_at_sync(rt, 2, "head flush failed", "syncs 2")?;
-    fail_at_sync(rt, 3, "head flush done", "syncs 3")
-}
-
-fn fail_at_sync(rt: HostRuntime, failing: u64, flushed: &str, synced: &str) -> Result<(), Wrong> {
-    let plan = Plan::failing_sync(failing);
-    let mut shelf = FolderShelf::new(Faulty { rt, plan: &plan }, rt.alloc(), "frail")?;
-    fails_at_sync(rt, &plan, &mut shelf, flushed, synced)
-}
-
-fn fails_at_sync<S: Shelf>(
-    rt: HostRuntime,
-    plan: &Plan,
-    shelf: &mut S,
-    flushed: &str,
-    synced: &str,
-) -> Result<(), Wrong> {
-    let before = "
+static WITH_FAULTY_FILES: [Script; 12] = [
+    // The first sync is of the file, the second of the folder, and the third of the other file.
+    (
+        "a flush whose first sync fails is never taken for done",
+        "frail",
+        "
+        folder frail
+        failing_sync 1
         head append a done
         book.0 append b done
         seal.0 flush done
         syncs 0
-        ";
-    follow_all(rt, plan, shelf, before)?;
-    follow_all(rt, plan, shelf, flushed)?;
-    let after = "
+        head flush failed
         book.0 flush failed
         book.0 flush failed
         head flush failed
-        ";
-    follow_all(rt, plan, shelf, after)?;
-    follow_all(rt, plan, shelf, synced)
-}
-
-#[test]
-fn what_changed_after_a_flush_is_flushed_again(rt: HostRuntime) -> Result<(), Fail> {
-    // A flush after a file was made is two syncs, of the file and of the folder.
-    let steps = "
+        syncs 1
+        ",
+    ),
+    (
+        "a flush whose sync of the folder fails is never taken for done",
+        "frail",
+        "
+        failing_sync 2
+        head append a done
+        book.0 append b done
+        seal.0 flush done
+        syncs 0
+        head flush failed
+        book.0 flush failed
+        book.0 flush failed
+        head flush failed
+        syncs 2
+        ",
+    ),
+    (
+        "after a failed flush no file is flushed",
+        "frail",
+        "
+        failing_sync 3
+        head append a done
+        book.0 append b done
+        seal.0 flush done
+        syncs 0
+        head flush done
+        book.0 flush failed
+        book.0 flush failed
+        head flush failed
+        syncs 3
+        ",
+    ),
+    (
+        // A flush after a file was made is two syncs, of the file and of the folder.
+        "what changed after a flush is flushed again",
+        "again",
+        "
+        folder again
         head append ab done
         head flush done
         syncs 2
@@ -335,49 +275,52 @@ fn what_changed_after_a_flush_is_flushed_again(rt: HostRuntime) -> Result<(), Fa
         book.0 append d done
         book.0 flush done
         syncs 6
-        ";
-    play(rt, Plan::new(), "again", steps)
-}
-
-#[test]
-fn a_failed_append_leaves_its_first_bytes(rt: HostRuntime) -> Result<(), Fail> {
-    let steps = "
+        ",
+    ),
+    (
+        "a failed append leaves its first bytes",
+        "short",
+        "
+        folder short
         head append ab!c failed
         head len 2
         head append d done
         head len 3
         on_disk short/head abd
-        ";
-    play(rt, Plan::new(), "short", steps)
-}
-
-#[test]
-fn the_first_flush_reaches_what_an_earlier_run_left(rt: HostRuntime) -> Result<(), Fail> {
-    // A cut that changes nothing opens no file. One sync is of the file and one of the folder.
-    let steps = "
+        ",
+    ),
+    (
+        // A cut that changes nothing opens no file. One sync is of the file and one of the folder.
+        "the first flush reaches what an earlier run left",
+        "left",
+        "
+        folder left
+        file left/seal.0 a
         seal.0 cut 1 done
         seal.0 flush done
         syncs 2
         seal.0 flush done
         syncs 2
-        ";
-    play_after(rt, Plan::new(), "left", "left/seal.0", b"a", steps)
-}
-
-#[test]
-fn a_folder_that_cannot_be_opened_is_never_flushed(rt: HostRuntime) -> Result<(), Fail> {
-    let steps = "
+        ",
+    ),
+    (
+        "a folder that cannot be opened is never flushed",
+        "shut",
+        "
+        folder shut
         head append a done
         head flush failed
         head flush failed
-        ";
-    play(rt, Plan::new(), "shut", steps)
-}
-
-#[test]
-fn a_failed_cut_is_not_taken_for_done(rt: HostRuntime) -> Result<(), Fail> {
-    // The second cut is of a file whose length is known.
-    let steps = "
+        ",
+    ),
+    (
+        // The second cut is of a file whose length is known.
+        "a failed cut is not taken for done",
+        "long",
+        "
+        folder long
+        file long/book.0 abcdef
+        failing_cut 3
         book.0 cut 3 failed
         book.0 len 6
         book.0 cut 3 failed
@@ -388,50 +331,71 @@ fn a_failed_cut_is_not_taken_for_done(rt: HostRuntime) -> Result<(), Fail> {
         book.0 cut 4 done
         book.0 len 4
         on_disk long/book.0 abcd
-        ";
-    play_after(
-        rt,
-        Plan::failing_cut(3),
-        "long",
-        "long/book.0",
-        b"abcdef",
-        steps,
-    )
-}
-
-#[test]
-fn a_read_goes_on_until_its_piece_is_full(rt: HostRuntime) -> Result<(), Fail> {
-    // The file ends before the second piece is full.
-    let steps = "
+        ",
+    ),
+    (
+        // The file ends before the second piece is full.
+        "a read goes on until its piece is full",
+        "slow",
+        "
+        folder slow
+        file slow/head abcdef
         head read 1 4 bcde
         head read 4 4 ef
-        ";
-    play_after(rt, Plan::new(), "slow", "slow/head", b"abcdef", steps)
-}
-
-#[test]
-fn a_failed_read_is_no_end_of_a_file(rt: HostRuntime) -> Result<(), Fail> {
-    let steps = "
+        ",
+    ),
+    (
+        "a failed read is no end of a file",
+        "torn",
+        "
+        folder torn
+        file torn/head ab!d
         head read 0 4 failed
         head read 2 4 failed
         head read 0 4 failed
         head read 0 2 ab
         head read 3 4 d
         head len 4
-        ";
-    play_after(rt, Plan::new(), "torn", "torn/head", b"ab!d", steps)
-}
+        ",
+    ),
+    (
+        "an interrupted call on a file is made again 64 times",
+        "rung",
+        "
+        folder rung
+        interruptions 1
+        head append a done
+        interruptions_left 0
+        interruptions 1
+        head read 0 1 a
+        interruptions_left 0
+        interruptions 64
+        head append a done
+        interruptions_left 0
+        interruptions 64
+        head read 0 1 a
+        interruptions_left 0
+        ",
+    ),
+    (
+        "a call on a file that is interrupted 65 times has failed",
+        "rung",
+        "
+        interruptions 65
+        head append a failed
+        interruptions_left 0
+        interruptions 65
+        head read 0 1 failed
+        interruptions_left 0
+        on_disk rung/head aa
+        ",
+    ),
+];
 
 #[test]
-fn an_interrupted_call_on_a_file_is_made_again_64_times(rt: HostRuntime) -> Result<(), Fail> {
-    let steps = "
-        interrupted 1 append a done
-        interrupted 1 read 0 1 a
-        interrupted 64 append a done
-        interrupted 64 read 0 1 a
-        interrupted 65 append a failed
-        interrupted 65 read 0 1 failed
-        on_disk rung/head aa
-        ";
-    play(rt, Plan::new(), "rung", steps)
+fn a_fault_of_the_files_is_never_taken_for_done(rt: HostRuntime) -> Result<(), Fail> {
+    for script in &WITH_FAULTY_FILES {
+        follow_faulty(rt, script)?;
+    }
+    Ok(())
 }

@@ -5,6 +5,7 @@ use std::io;
 use std::io::{BufRead, ErrorKind, Lines, Read};
 use std::sync::atomic::AtomicU64;
 use std::sync::atomic::Ordering::SeqCst;
+use std::test::Fail;
 
 /// Standard input that fails so many times with one kind of error and then has `ab`. The next read
 /// is at the end, and those after it have more bytes, as a terminal may. It counts its reads.
@@ -66,52 +67,36 @@ fn reads(kind: ErrorKind, failures: u64, returned: Result<usize, EdgeFault>, cal
     source.read(&mut into) == returned && reads.load(SeqCst) == calls
 }
 
+/// The error, how often it comes, what a read returns then, and after how many calls.
+static READS: [(ErrorKind, u64, Result<usize, EdgeFault>, u64); 7] = [
+    (ErrorKind::Interrupted, 1, Ok(2), 2),
+    (ErrorKind::Interrupted, 64, Ok(2), 65),
+    (ErrorKind::Interrupted, 65, Err(EdgeFault::Failed), 65),
+    (ErrorKind::WouldBlock, 1, Err(EdgeFault::Failed), 1),
+    (ErrorKind::IsADirectory, 1, Err(EdgeFault::Failed), 1),
+    (ErrorKind::UnexpectedEof, 1, Err(EdgeFault::Failed), 1),
+    (ErrorKind::Other, 1, Err(EdgeFault::Failed), 1),
+];
+
 #[test]
-fn an_interrupted_read_is_made_again_64_times(rt: HostRuntime) {
-    for (failures, returned, calls) in [
-        (1, Ok(2), 2),
-        (64, Ok(2), 65),
-        (65, Err(EdgeFault::Failed), 65),
-    ] {
-        assert!(rt;
-            reads(ErrorKind::Interrupted, failures, returned, calls),
-            "{failures} interruptions"
-        );
+fn an_interrupted_read_is_made_again_64_times_and_no_other_error_is_an_end(rt: HostRuntime) {
+    for (kind, failures, returned, calls) in &READS {
+        let is_so = reads(*kind, *failures, *returned, *calls);
+        assert!(rt; is_so, "{kind:?} {failures} times");
     }
 }
 
 #[test]
-fn any_other_error_of_a_read_is_no_end(rt: HostRuntime) {
-    for kind in [
-        ErrorKind::WouldBlock,
-        ErrorKind::IsADirectory,
-        ErrorKind::UnexpectedEof,
-        ErrorKind::Other,
-    ] {
-        assert!(rt; reads(kind, 1, Err(EdgeFault::Failed), 1), "{kind:?}");
-    }
-}
-
-#[test]
-fn the_end_is_read_once(rt: HostRuntime) {
-    assert!(rt; reads_the_end_once(rt));
-}
-
-fn reads_the_end_once(rt: HostRuntime) -> bool {
+fn the_end_is_read_once(rt: HostRuntime) -> Result<(), Fail> {
     let reads = AtomicU64::new(0);
-    let keyboard = Keyboard {
+    let mut source = StdSource::new(Keyboard {
         kind: ErrorKind::Other,
         failures: 0,
         reads: &reads,
-    };
-    reads_whole(rt, keyboard) && reads.load(SeqCst) == 2
-}
-
-fn reads_whole(rt: HostRuntime, keyboard: Keyboard<'_>) -> bool {
-    match read_all(rt.alloc(), &mut StdSource::new(keyboard), 9) {
-        Ok(bytes) => bytes.as_slice() == b"ab".as_slice(),
-        Err(_) => false,
-    }
+    });
+    let bytes = read_all(rt.alloc(), &mut source, 9)?;
+    assert!(rt; bytes.as_slice() == b"ab".as_slice() && reads.load(SeqCst) == 2);
+    Ok(())
 }
 
 /// Standard output that is interrupted so many times, takes at most so many bytes of each piece,
@@ -168,72 +153,57 @@ impl Print for Pipe {
     }
 }
 
-/// Whether a write of `abc` to standard output that is interrupted so many times at first returns
-/// this, after so many calls.
-fn writes(interruptions: u64, returned: Result<usize, EdgeFault>, calls: u64) -> bool {
-    let pipe = Pipe::new(interruptions, 9);
+/// Whether a write to standard output that is interrupted so many times at first, and takes at most
+/// so many bytes, returns this, after so many calls.
+fn writes(
+    piece: &[u8],
+    interruptions: u64,
+    most: usize,
+    returned: Result<usize, EdgeFault>,
+    calls: u64,
+) -> bool {
+    let pipe = Pipe::new(interruptions, most);
     let mut sink = StdSink::new(&pipe);
-    sink.write(b"abc") == returned && pipe.writes.load(SeqCst) == calls
+    sink.write(piece) == returned && pipe.writes.load(SeqCst) == calls
 }
 
+/// The piece, the interruptions, the most bytes that are taken, what a write returns, and after how
+/// many calls.
+static WRITES: [(&[u8], u64, usize, Result<usize, EdgeFault>, u64); 6] = [
+    (b"abc", 1, 9, Ok(3), 2),
+    (b"abc", 64, 9, Ok(3), 65),
+    (b"abc", 65, 9, Err(EdgeFault::Failed), 65),
+    (b"abc", 0, 2, Ok(2), 1),
+    (b"", 0, 2, Err(EdgeFault::Failed), 1),
+    (b"abc", 0, 0, Err(EdgeFault::Failed), 1),
+];
+
 #[test]
-fn an_interrupted_write_is_made_again_64_times(rt: HostRuntime) {
-    for (interruptions, returned, calls) in [
-        (1, Ok(3), 2),
-        (64, Ok(3), 65),
-        (65, Err(EdgeFault::Failed), 65),
-    ] {
+fn an_interrupted_write_is_made_again_64_times_and_one_that_takes_nothing_fails(rt: HostRuntime) {
+    for (piece, interruptions, most, returned, calls) in &WRITES {
+        let is_so = writes(piece, *interruptions, *most, *returned, *calls);
         assert!(rt;
-            writes(interruptions, returned, calls),
-            "{interruptions} interruptions"
+            is_so,
+            "{interruptions} interruptions, at most {most} bytes"
         );
     }
 }
 
-#[test]
-fn a_large_piece_is_written_in_as_many_parts_as_it_takes(rt: HostRuntime) {
-    assert!(rt; writes_in_parts(rt, 5_000, 630), "at most 5000 at once");
-    assert!(rt; writes_in_parts(rt, 2 << 20, 2), "at most 2 MiB at once");
-}
-
-/// Whether 3 MiB are written whole to standard output that takes at most so many bytes of a piece,
-/// in so many calls.
-fn writes_in_parts(rt: HostRuntime, most: usize, calls: u64) -> bool {
-    match vec![in rt.alloc(); 0u8; 3 << 20] {
-        Ok(piece) => takes_in_parts(&piece, most, calls),
-        Err(_) => false,
-    }
-}
-
-fn takes_in_parts(piece: &[u8], most: usize, calls: u64) -> bool {
+/// Whether a piece is written whole to standard output that takes at most so many bytes at once, in
+/// so many calls, and these are the last that it took.
+fn takes(piece: &[u8], most: usize, calls: u64, last: [u8; 8]) -> bool {
     let pipe = Pipe::new(0, most);
     write_all(&mut StdSink::new(&pipe), piece).is_ok()
         && pipe.taken.load(SeqCst) == piece.len() as u64
         && pipe.writes.load(SeqCst) == calls
+        && pipe.last.load(SeqCst).to_be_bytes() == last
 }
 
 #[test]
-fn a_write_that_takes_nothing_fails(rt: HostRuntime) {
-    assert!(rt; takes_two_and_then_nothing() && fails_if_none_is_taken());
-}
-
-fn takes_two_and_then_nothing() -> bool {
-    let mut sink = StdSink::new(Pipe::new(0, 2));
-    sink.write(b"abc") == Ok(2) && sink.write(b"") == Err(EdgeFault::Failed)
-}
-
-fn fails_if_none_is_taken() -> bool {
-    let mut sink = StdSink::new(Pipe::new(0, 0));
-    sink.write(b"abc") == Err(EdgeFault::Failed)
-}
-
-#[test]
-fn standard_output_receives_the_bytes_in_order(rt: HostRuntime) {
-    assert!(rt; receives_in_order());
-}
-
-fn receives_in_order() -> bool {
-    let pipe = Pipe::new(0, 2);
-    write_all(&mut StdSink::new(&pipe), b"abcde").is_ok()
-        && pipe.last.load(SeqCst).to_be_bytes() == *b"\0\0\0abcde"
+fn a_piece_is_written_in_order_in_as_many_parts_as_it_takes(rt: HostRuntime) -> Result<(), Fail> {
+    let zeros = vec![in rt.alloc(); 0u8; 3 << 20]?;
+    assert!(rt; takes(b"abcde", 2, 3, *b"\0\0\0abcde"), "five bytes");
+    assert!(rt; takes(&zeros, 5_000, 630, [0; 8]), "at most 5000 at once");
+    assert!(rt; takes(&zeros, 2 << 20, 2, [0; 8]), "at most 2 MiB at once");
+    Ok(())
 }

@@ -3,6 +3,8 @@
 #![tactic(auto)]
 
 #[cfg(test)]
+mod changes;
+#[cfg(test)]
 mod drops;
 #[cfg(test)]
 mod full_stores;
@@ -13,7 +15,7 @@ mod plans;
 #[cfg(test)]
 mod runs;
 #[cfg(test)]
-mod shelves;
+mod steps;
 #[cfg(test)]
 mod stores;
 #[cfg(test)]

@@ -1,7 +1,6 @@
 //! The status and the note of each outcome.
 use backup_top::{BadKind, BadParams, BadWords, Outcome, note_of, status_of};
-use sd_base::{Damage, OutOfMemory};
-use std::alloc::Global;
+use sd_base::Damage;
 use std::test::Fail;
 
 // The name of 64 zeros, by `sha256sum`.
@@ -135,16 +134,14 @@ static NOTES: [(Outcome, u8, &str); 28] = [
     (Outcome::OutOfMemory, 13, "backup: out of memory\n"),
 ];
 
-// Whether an outcome has this status and this note.
-fn has(alloc: Global, outcome: &Outcome, status: u8, note: &str) -> Result<bool, OutOfMemory> {
-    let text = note_of(alloc, outcome)?;
-    Ok(status_of(outcome) == status && text.as_str() == note)
-}
-
 #[test]
 fn each_outcome_has_its_status_and_its_note(rt: HostRuntime) -> Result<(), Fail> {
     for (outcome, status, note) in &NOTES {
-        assert!(rt; has(rt.alloc(), outcome, *status, note)?, "{note}");
+        let text = note_of(rt.alloc(), outcome)?;
+        assert!(rt;
+            status_of(outcome) == *status && text.as_str() == *note,
+            "{note}"
+        );
     }
     Ok(())
 }

@@ -2,12 +2,13 @@
 ghost use Rattle.std.specs.Prelude.{◌≡◌, Some};
 
 use crate::runs::Bytes::{OneAt, Text, Zeros};
-use crate::runs::{Bytes, byte_by_byte, bytes_in, failing_sink, run_without_files, words};
-use crate::shelves::{Row, shelf_after};
-use backup_top::{BadKind, BadParams, BadWords, Outcome, plain_cuts};
-use edge_traits::{EdgeFault, MemSink, MemSource, Sink, Source};
+use crate::runs::{Bytes, Planned, byte_by_byte, bytes_in, words};
+use crate::steps::Step::{Over, Run};
+use crate::steps::{Step, follow};
+use backup_top::{BadKind, BadParams, BadWords, Outcome, plain_cuts, run};
+use edge_traits::{EdgeFault, NoShelf, Sink};
 use sd_base::{MAX_INPUT, Params};
-use std::alloc::{AllocError, Global};
+use std::alloc::Global;
 use std::test::Fail;
 use std::thread::Threads;
 
@@ -55,30 +56,34 @@ const ONE_CHUNK: &str = "\
 0 300 cdbca213c17bb78ae98ce693377dbed4ec7497e301d2ddd504550b9cb5c99d4b
 ";
 
-static RUNS: [Row; 11] = [
+const THREE_ZEROS: &str = "\
+0 3 709e80c88487a2411e1ee4dfb9f22a861492d20c4765150c0c794abd70f8147c
+";
+
+static RUNS: [Step; 12] = [
     // An empty input has no chunk.
-    (FEW, Zeros(0), Outcome::Done, Text("")),
+    Run(FEW, Zeros(0), Outcome::Done, Text("")),
     // With no candidate each chunk but the last has the maximum.
-    (FEW, Zeros(700), Outcome::Done, Text(NO_MATCH)),
+    Run(FEW, Zeros(700), Outcome::Done, Text(NO_MATCH)),
     // With a candidate at each position each chunk but the last has the minimum.
-    (ALL, Zeros(200), Outcome::Done, Text(ALL_MATCH)),
+    Run(ALL, Zeros(200), Outcome::Done, Text(ALL_MATCH)),
     // A chunk ends right after the byte that makes a candidate.
-    (FEW, OneAt(300, 99), Outcome::Done, Text(AT_100)),
+    Run(FEW, OneAt(300, 99), Outcome::Done, Text(AT_100)),
     // A candidate below the minimum is passed over.
-    (FEW, OneAt(200, 62), Outcome::Done, Text(BELOW_MINIMUM)),
+    Run(FEW, OneAt(200, 62), Outcome::Done, Text(BELOW_MINIMUM)),
     // One at the minimum is a cut.
-    (FEW, OneAt(200, 63), Outcome::Done, Text(AT_MINIMUM)),
+    Run(FEW, OneAt(200, 63), Outcome::Done, Text(AT_MINIMUM)),
     // One after the maximum comes too late, and is below the minimum of the next chunk.
-    (FEW, OneAt(300, 256), Outcome::Done, Text(PAST_MAXIMUM)),
+    Run(FEW, OneAt(300, 256), Outcome::Done, Text(PAST_MAXIMUM)),
     // Under the default parameters the minimum is 2048.
-    ("store,plan", OneAt(300, 99), Outcome::Done, Text(ONE_CHUNK)),
-    (
+    Run("store,plan", OneAt(300, 99), Outcome::Done, Text(ONE_CHUNK)),
+    Run(
         "store,plan",
         Zeros(MAX_INPUT as usize + 1),
         Outcome::InputTooLong,
         Text(""),
     ),
-    (
+    Run(
         "store,plan,bits=99,bits=13",
         Zeros(3),
         Outcome::BadWords(BadWords {
@@ -87,18 +92,27 @@ static RUNS: [Row; 11] = [
         }),
         Text(""),
     ),
-    (
+    Run(
         "store,plan,min=47,bits=0",
         Zeros(3),
         Outcome::BadParams(BadParams::Bits),
         Text(""),
     ),
+    // It reads to the end and writes once.
+    Over(Planned {
+        line: "store,plan",
+        input: Zeros(3),
+        failing: (4, 1),
+        ending: Outcome::Done,
+        output: THREE_ZEROS,
+        next_read: (Err(EdgeFault::Failed), 0),
+        next_write: Err(EdgeFault::Failed),
+    }),
 ];
 
 #[test]
 fn a_run_prints_the_chunks_that_the_rule_cuts_or_refuses(rt: HostRuntime) -> Result<(), Fail> {
-    shelf_after(&rt, rt.alloc(), &RUNS)?;
-    Ok(())
+    follow(&rt, rt.alloc(), &RUNS)
 }
 
 // A sink that takes one byte of each piece, and fails once it has `room` bytes.
@@ -131,46 +145,10 @@ impl Sink for Slow {
     }
 }
 
-// Zeros with a byte 1, read one by one. The read of this number fails.
-fn slow_source(alloc: Global, failing: u32) -> Result<MemSource, AllocError> {
-    let bytes = bytes_in(alloc, &OneAt(300, 99))?;
-    byte_by_byte(alloc, bytes, failing)
-}
-
-// How a run of `FEW` on that source ends, and its sink, which has this room.
-fn slow_run<H: Threads + Sync>(
-    rt: &H,
-    alloc: Global,
-    failing: u32,
-    room: usize,
-) -> Result<(Outcome, Slow), AllocError> {
-    let words = words(alloc, FEW)?;
-    let mut source = slow_source(alloc, failing)?;
-    let mut sink = Slow {
-        bytes: Vec::new(alloc),
-        room,
-        faults: 0,
-    };
-    let outcome = run_without_files(rt, alloc, words.as_slice(), &mut source, &mut sink);
-    Ok((outcome, sink))
-}
-
-// Whether such a run ends so, writes this and counts these faults.
-fn ends_slowly<H: Threads + Sync>(
-    rt: &H,
-    alloc: Global,
-    failing: u32,
-    room: usize,
-    ending: Outcome,
-    text: &str,
-    faults: u64,
-) -> Result<bool, AllocError> {
-    let (outcome, sink) = slow_run(rt, alloc, failing, room)?;
-    Ok(outcome == ending && sink.bytes.as_slice() == text.as_bytes() && sink.faults == faults)
-}
-
 // The read that fails, the room of the sink, how the run ends, what is written and the faults.
-static SLOW_RUNS: [(u32, usize, Outcome, &str, u64); 4] = [
+type SlowRun = (u32, usize, Outcome, &'static str, u64);
+
+static SLOW_RUNS: [SlowRun; 4] = [
     (1000, 1000, Outcome::Done, AT_100, 0),
     // A read that fails in mid-stream: nothing is written.
     (2, 1000, Outcome::SourceFault, "", 0),
@@ -179,71 +157,34 @@ static SLOW_RUNS: [(u32, usize, Outcome, &str, u64); 4] = [
     (1000, 5, Outcome::SinkFault, "0 100", 1),
 ];
 
+// Whether a run of `FEW` over no files goes so, on zeros with a byte 1 that are read one by one.
+fn goes_slowly<H: Threads + Sync>(rt: &H, alloc: Global, row: &SlowRun) -> Result<bool, Fail> {
+    let (failing, room, ending, text, faults) = row;
+    let words = words(alloc, FEW)?;
+    let mut source = byte_by_byte(alloc, &OneAt(300, 99), *failing)?;
+    let mut sink = Slow {
+        bytes: Vec::new(alloc),
+        room: *room,
+        faults: 0,
+    };
+    let mut shelf = NoShelf::new();
+    let outcome = run(
+        rt,
+        alloc,
+        words.as_slice(),
+        &mut source,
+        &mut sink,
+        &mut shelf,
+    );
+    Ok(outcome == *ending && sink.bytes.as_slice() == text.as_bytes() && sink.faults == *faults)
+}
+
 #[test]
 fn reads_and_writes_of_a_byte_change_nothing_until_one_fails(rt: HostRuntime) -> Result<(), Fail> {
-    for (failing, room, ending, text, faults) in &SLOW_RUNS {
-        let is_so = ends_slowly(&rt, rt.alloc(), *failing, *room, *ending, text, *faults)?;
-        assert!(rt; is_so, "{room}");
+    for row in &SLOW_RUNS {
+        assert!(rt; goes_slowly(&rt, rt.alloc(), row)?, "{} {}", row.0, row.1);
     }
     Ok(())
-}
-
-// Whether the next read of a source fails.
-fn next_read_fails(source: &mut MemSource) -> bool {
-    source.read(&mut [0; 1]).err() == Some(EdgeFault::Failed)
-}
-
-// Whether the next write to a sink fails.
-fn next_write_fails(sink: &mut MemSink) -> bool {
-    sink.write(b"x").err() == Some(EdgeFault::Failed)
-}
-
-// A source of three zeros, of which the read of number 2 fails.
-fn three_zeros(alloc: Global) -> Result<MemSource, AllocError> {
-    let zeros = bytes_in(alloc, &Zeros(3))?;
-    let failing = vec![in alloc; 2u32]?;
-    Ok(MemSource::new(alloc, zeros, Vec::new(alloc), failing))
-}
-
-// Whether a run that reads three zeros makes two reads and one write: the next of each is the one
-// that is planned to fail.
-fn reads_twice_and_writes_once<H: Threads + Sync>(
-    rt: &H,
-    alloc: Global,
-    words: &[String],
-    mut source: MemSource,
-    mut sink: MemSink,
-) -> bool {
-    let outcome = run_without_files(rt, alloc, words, &mut source, &mut sink);
-    outcome == Outcome::Done && next_read_fails(&mut source) && next_write_fails(&mut sink)
-}
-
-// Whether `plan` does so.
-fn plan_reads_twice_and_writes_once<H: Threads + Sync>(
-    rt: &H,
-    alloc: Global,
-) -> Result<bool, AllocError> {
-    let words = words(alloc, "store,plan")?;
-    let source = three_zeros(alloc)?;
-    let sink = failing_sink(alloc, 1)?;
-    Ok(reads_twice_and_writes_once(rt, alloc, words.as_slice(), source, sink))
-}
-
-#[test]
-fn a_run_reads_to_the_end_and_writes_once(rt: HostRuntime) -> Result<(), Fail> {
-    assert!(rt; plan_reads_twice_and_writes_once(&rt, rt.alloc())?);
-    Ok(())
-}
-
-// Whether plain division of these bytes cuts them so.
-fn is_cut_so(alloc: Global, params: &Params, input: &[u8], cuts: &[u32]) -> bool {
-    if input.len() >= 1000 {
-        return false;
-    }
-    match plain_cuts(alloc, params, input) {
-        Ok(found) => found.as_slice() == cuts,
-        Err(_) => false,
-    }
 }
 
 // The target under `SPARSE`, the input and the cuts.
@@ -263,13 +204,16 @@ fn cuts_so(alloc: Global, row: &Cuts) -> Result<bool, Fail> {
     let (target, input, cuts) = row;
     let params = Params::new(SPARSE, 13, *target, 64, 256)?;
     let input = bytes_in(alloc, input)?;
-    Ok(is_cut_so(alloc, &params, input.as_slice(), cuts))
+    if input.len() >= 1000 {
+        return Ok(false);
+    }
+    Ok(plain_cuts(alloc, &params, &input)?.as_slice() == *cuts)
 }
 
 #[test]
 fn plain_division_cuts_where_the_rule_does(rt: HostRuntime) -> Result<(), Fail> {
-    for row in &CUTS {
-        assert!(rt; cuts_so(rt.alloc(), row)?, "{}", row.0);
+    for (number, row) in CUTS.iter().enumerate() {
+        assert!(rt; cuts_so(rt.alloc(), row)?, "row {number}");
     }
     Ok(())
 }

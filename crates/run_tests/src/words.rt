@@ -150,73 +150,33 @@ const MANY: How = How {
     shards: 16,
 };
 
-// A command, without the name of its session.
-#[derive(Clone, Copy)]
-enum Kind {
-    Init(RawParams),
-    Plan(RawParams, u32, u32),
-    List,
-    Refs,
-    Ingest(How),
-    Restore,
-    Drop,
-}
-
-// Command lines, some with the name `a.1`, and the commands that they name.
-static COMMANDS: [(&str, Kind); 8] = [
-    (
-        "store,init,polynomial=8000000000000001,bits=13,target=0,min=64,max=256",
-        Kind::Init(RAW),
-    ),
-    ("store,ingest,a.1", Kind::Ingest(HOW)),
-    (
-        "store,ingest,a.1,segment=268435456,workers=64",
-        Kind::Ingest(MANY),
-    ),
-    (
-        "store,plan,workers=1,bits=13,target=0,polynomial=8000000000000001,segment=47,min=64,max=256",
-        Kind::Plan(RAW, 1, 47),
-    ),
-    ("store,list", Kind::List),
-    ("store,restore,a.1", Kind::Restore),
-    ("store,drop,a.1", Kind::Drop),
-    ("store,refs", Kind::Refs),
-];
-
-// The command of a kind, on the session of a name if it has one.
-fn command_on(kind: Kind, name: Name) -> Command {
-    match kind {
-        Kind::Ingest(how) => Command::Ingest { name, how },
-        Kind::Restore => Command::Quiet(Quiet::Restore { name }),
-        Kind::Drop => Command::Quiet(Quiet::Drop { name }),
-        _ => Command::Quiet(command_without_name(kind)),
-    }
-}
-
-// The command of a kind that has no name.
-fn command_without_name(kind: Kind) -> Quiet {
-    match kind {
-        Kind::Init(raw) => Quiet::Init { raw },
-        Kind::Plan(raw, workers, segment) => Quiet::Plan {
-            raw,
-            workers,
-            segment,
-        },
-        Kind::Refs => Quiet::Refs,
-        _ => Quiet::List,
-    }
-}
-
-// Whether a command line is read as the command of a kind, on the session `a.1` if it has a name.
-fn names(alloc: Global, line: &str, kind: Kind) -> Result<bool, Fail> {
-    let name = Name::read(b"a.1").ok().ok_or("a name")?;
-    Ok(is_read_as(alloc, line, Ok(command_on(kind, name)))?)
-}
-
 #[test]
 fn each_command_of_the_store_has_its_words(rt: HostRuntime) -> Result<(), Fail> {
-    for (line, kind) in &COMMANDS {
-        assert!(rt; names(rt.alloc(), line, *kind)?, "{line}");
+    let name = Name::read(b"a.1").ok().ok_or("a name")?;
+    for (line, command) in [
+        (
+            "store,init,polynomial=8000000000000001,bits=13,target=0,min=64,max=256",
+            Command::Quiet(Quiet::Init { raw: RAW }),
+        ),
+        ("store,ingest,a.1", Command::Ingest { name, how: HOW }),
+        (
+            "store,ingest,a.1,segment=268435456,workers=64",
+            Command::Ingest { name, how: MANY },
+        ),
+        (
+            "store,plan,workers=1,bits=13,target=0,polynomial=8000000000000001,segment=47,min=64,max=256",
+            Command::Quiet(Quiet::Plan {
+                raw: RAW,
+                workers: 1,
+                segment: 47,
+            }),
+        ),
+        ("store,list", Command::Quiet(Quiet::List)),
+        ("store,restore,a.1", Command::Quiet(Quiet::Restore { name })),
+        ("store,drop,a.1", Command::Quiet(Quiet::Drop { name })),
+        ("store,refs", Command::Quiet(Quiet::Refs)),
+    ] {
+        assert!(rt; is_read_as(rt.alloc(), line, Ok(command))?, "{line}");
     }
     Ok(())
 }
