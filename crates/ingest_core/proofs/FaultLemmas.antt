@@ -88,6 +88,12 @@ memory-not-places is = cc
 pub memory-not-shelf : Store OutOfMemory ≡ Store ShelfFault → ⊥
 memory-not-shelf is = cc
 
+pub memory-not-long : Store OutOfMemory ≡ InputTooLong → ⊥
+memory-not-long is = cc
+
+pub memory-not-source : Store OutOfMemory ≡ SourceFault → ⊥
+memory-not-source is = cc
+
 pub memory-no-fault : OutOfMemory ≡ ShelfFault → ⊥
 memory-no-fault is = cc
 

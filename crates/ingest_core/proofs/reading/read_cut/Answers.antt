@@ -4,7 +4,7 @@ use Rattle.sd_base.specs.Params.{numbers_of}
 use Rattle.store_core.specs.declared.fault.StoreFault.TheVariants.{OutOfMemory}
 use Rattle.ingest_core.specs.Faults.{IsOfReading, ingest_fault_of}
 use Rattle.ingest_core.specs.declared.fault.IngestFault.TheVariants.{Store}
-use Rattle.ingest_core.proofs.FaultLemmas.{err-is, err-of, passed-holds, passed-is, reading-is, source-fault-is, too-long-is}
+use Rattle.ingest_core.proofs.FaultLemmas.{err-is, err-of, memory-not-long, memory-not-source, ok-not, passed-holds, passed-is, reading-is, source-fault-is, too-long-is}
 use Rattle.ingest_core.proofs.Inputs.{all_lost, none_left}
 use Rattle.ingest_core.proofs.reading.read_cut.Goals as goal
 
@@ -46,13 +46,13 @@ returns-in_err-cuts g c =
       at_end = rw gave tt;
       fits_left = rw gave tt;
       refused = passed-holds IsOfReading result (Store OutOfMemory) c.from_residual-in_err-cuts.ensures.1 tt;
-      too_long = λ is. absurd (cc (gave, is));
-      taken = λ is. absurd (cc (gave, is));
+      too_long = λ is. absurd (memory-not-long (err-is (sym gave ∙ is)));
+      taken = λ is. absurd (memory-not-long (err-is (sym gave ∙ is)));
       taken_at_most = all_lost _ _ c.in_ok-input.ensures.at_end c.in_ok-input.ensures.fits;
       counts = record {
-        failed = λ is. absurd (cc (gave, is));
+        failed = λ is. absurd (memory-not-source (err-is (sym gave ∙ is)));
         never_falls = read.never_falls;
-        faultless_serves = λ never is. cc (gave, is);
+        faultless_serves = λ never is. memory-not-source (err-is (sym gave ∙ is));
         faultless_counts_none = read.faultless_counts_none;
         stays_faultless = read.stays_faultless;
       };
@@ -69,13 +69,13 @@ returns g c =
       at_end = none_left _ _ input.at_end;
       fits_left = input.fits;
       refused = tt;
-      too_long = λ is. absurd (cc is);
-      taken = λ is. absurd (cc is);
+      too_long = λ is. absurd (ok-not is);
+      taken = λ is. absurd (ok-not is);
       taken_at_most = all_lost _ _ input.at_end input.fits;
       counts = record {
-        failed = λ is. absurd (cc is);
+        failed = λ is. absurd (ok-not is);
         never_falls = read.never_falls;
-        faultless_serves = λ never is. cc is;
+        faultless_serves = λ never is. ok-not is;
         faultless_counts_none = read.faultless_counts_none;
         stays_faultless = read.stays_faultless;
       };
