@@ -22,8 +22,8 @@ pub(crate) struct Script {
     pub(crate) steps: &'static str,
 }
 
-/// Follows the scripts. The first step that does not go as it has to is the failure: the title, what
-/// was kept, and the line, counted from 0.
+/// Follows the scripts. The first step that does not go as it has to is the failure: the title,
+/// what was kept, and the line, counted from 0.
 pub(crate) fn follow_all(rt: HostRuntime, scripts: &[Script]) -> Result<(), Fail> {
     for script in scripts {
         for kept in script.kept {

@@ -49,8 +49,8 @@ fn are_same(one: &MemShelf, other: &MemShelf) -> bool {
     true
 }
 
-/// Makes the change once for each of its calls, which fails. One at which the change is made in part
-/// is the failure.
+/// Makes the change once for each of its calls, which fails. One at which the change is made in
+/// part is the failure.
 pub(crate) fn survives_each_call<H: Threads + Sync>(
     rt: &H,
     alloc: Global,

@@ -8,7 +8,8 @@ use backup_top::Outcome;
 use edge_traits::File;
 use std::test::Fail;
 
-/// The lines of `refs`, with names by `sha256sum`, if the sessions `a` and `b` of 200 zeros are live.
+/// The lines of `refs`, with names by `sha256sum`, if the sessions `a` and `b` of 200 zeros are
+/// live.
 const COUNTED: &str = "\
 0 6 64 f5a5fd42d16a20302798ef6ed309979b43003d2320d9f0e8ea9831a92759fb4b
 1 2 8 af5570f5a1810b7af78caf4bc70a660f0df51e42baf91d4de5b2328de0e83dfc

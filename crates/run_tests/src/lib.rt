@@ -1,5 +1,5 @@
-//! Tests of the top of the tool: rows of whole runs by `run` of `backup_top` over devices in memory.
-//! They are in a crate of their own, so that `backup_top` is not proved again for them.
+//! Tests of the top of the tool: rows of whole runs by `run` of `backup_top` over devices in
+//! memory. They are in a crate of their own, so that `backup_top` is not proved again for them.
 #![tactic(auto)]
 
 #[cfg(test)]
