@@ -3,6 +3,7 @@ pub mod Source
 pub mod Sink
 pub mod Shelf
 pub mod MemSource
+pub mod BulkSource
 pub mod MemSink
 pub mod NoShelf
 pub mod Entries

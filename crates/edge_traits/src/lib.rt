@@ -5,13 +5,14 @@
 //! The traits are `Source`, `Sink` and `Shelf`; a value that implements one of them is a device. A
 //! device is observable if its contents are known to the contract: the bytes that a source has
 //! left, those that were written to a sink, the files of a shelf. `MemSource`, `MemSink`,
-//! `MemShelf` and `NoShelf` are observable. The first three fail only at calls that are planned in
-//! advance. `StdSource` and `StdSink` are standard input and output, and `FolderShelf` is a folder
+//! `MemShelf`, `NoShelf` and `BulkSource` are observable. The first three fail only at calls that
+//! are planned in advance, and the last never: it makes the input of `bulk`. `StdSource` and `StdSink` are standard input and output, and `FolderShelf` is a folder
 //! of files. These three are not observable.
 //!
 //! `read_all` reads a whole input, and `write_all` writes a whole piece.
 #![tactic(auto)]
 
+mod bulk_source;
 mod copy;
 mod entries;
 mod fault;
@@ -20,6 +21,7 @@ mod file_io;
 mod file_names;
 mod folder;
 mod folder_shelf;
+mod generator;
 mod mem_shelf;
 mod mem_sink;
 mod mem_source;
@@ -36,6 +38,7 @@ mod std_sink;
 mod std_source;
 mod tally;
 
+pub use bulk_source::BulkSource;
 pub use fault::EdgeFault;
 pub use folder_shelf::FolderShelf;
 pub use mem_shelf::MemShelf;

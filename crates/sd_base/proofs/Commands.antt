@@ -6,14 +6,15 @@ use Rattle.std.specs.Option.{option_and_then}
 use Rattle.std.specs.Str.{bytes_eq}
 use Rattle.std.specs.Str.Parse.{digits_value}
 use Rattle.std.proofs.lemmas.Bool.{cases_Bool, leb-true, and_parts}
-use Rattle.sd_base.specs.Commands.{AreRawParams, HasSessionName, HasNumbersInRange, HasRawParams, IsHow}
+use Rattle.sd_base.specs.Commands.{AreBlocks, AreRawParams, IsSeed, HasSessionName, HasNumbersInRange, HasRawParams, IsHow}
 use Rattle.sd_base.specs.Keys.{Key, first_bad_word, is_spelled, number_of, sets_key, value_of, value_or_default}
 use Rattle.sd_base.specs.Names.{IsName, bad_name}
-use Rattle.sd_base.specs.Words.{command_of, default_params, default_segment, default_workers, how_keys, how_of, params_keys, plan_keys, segment_key, workers_key, params_of, session_command_of, unless_bad, polynomial_key, bits_key, target_key, min_key, max_key}
+use Rattle.sd_base.specs.Words.{blocks_number, bulk_of, bulk_of_numbers, bulk_of_seed, seed_number, command_of, default_params, default_segment, default_workers, how_keys, how_of, params_keys, plan_keys, segment_key, workers_key, params_of, session_command_of, unless_bad, polynomial_key, bits_key, target_key, min_key, max_key}
 use Rattle.sd_base.specs.declared.words.BadWords.{BadWords}
 use Rattle.sd_base.specs.declared.words.Command.{Command}
-use Rattle.sd_base.specs.declared.words.Command.TheVariants.{Quiet, Ingest}
+use Rattle.sd_base.specs.declared.words.Command.TheVariants.{Quiet, Ingest, Bulk}
 use Rattle.sd_base.specs.declared.words.Quiet.TheVariants.{Plan, Init, List as ListSessions, Restore, Drop, Refs}
+use Rattle.sd_base.proofs.Generator.{bulk_name-is_name}
 use Rattle.sd_base.proofs.Names.{IsName_is_no_refusal}
 
 -- ---- values of keys
@@ -80,6 +81,23 @@ params-fit words = record {
   max = omega (arith, value-most words max_key default_params.max (lit≤ tt));
 }
 
+-- the numbers that the words of `bulk` spell
+below : (read : Option ℕ) → IfSome read (λ n. n ≤ seed_number.greatest) → IfSome read IsSeed
+below None most = tt
+below (Some n) most = omega (arith, most)
+
+seed-fits : (word : List ℕ) → IfSome (number_of seed_number word) IsSeed
+seed-fits word = below (number_of seed_number word) (number_of-most seed_number word)
+
+between : (read : Option ℕ) → IfSome read (λ n. blocks_number.least ≤ n) → IfSome read (λ n. n ≤ blocks_number.greatest) →
+    IfSome read AreBlocks
+between None least most = tt
+between (Some n) least most = (least, most)
+
+blocks-fit : (word : List ℕ) → IfSome (number_of blocks_number word) AreBlocks
+blocks-fit word =
+    between (number_of blocks_number word) (number_of-least blocks_number word) (number_of-most blocks_number word)
+
 -- ---- what holds of each command that words name
 
 none-from_test : {A : Type 0} (found : Option A) → is_some found ≡ false → found ≡ None
@@ -107,16 +125,39 @@ module _ (P : Command → Type 0) where
         rw good (unless_bad-keeps (first_bad_word keys [] 2 words) (command name words) (holds name words is_name))
   ]
 
+  bulk_numbers-keep : (seed : ℕ) (blocks : Option ℕ) (words : List (List ℕ)) → IsSeed seed → IfSome blocks AreBlocks →
+      ((n : ℕ) (more : List (List ℕ)) → AreBlocks n → P (Bulk seed n (how_of more))) →
+      IfOk (bulk_of_numbers seed blocks words) P
+  bulk_numbers-keep seed None words fits are holds = tt
+  bulk_numbers-keep seed (Some blocks) words fits are holds =
+      unless_bad-keeps (first_bad_word how_keys [] 3 words) (Bulk seed blocks (how_of words)) (holds blocks words are)
+
+  bulk_seed-keeps : (seed : Option ℕ) (words : List (List ℕ)) → IfSome seed IsSeed →
+      ((n blocks : ℕ) (more : List (List ℕ)) → IsSeed n → AreBlocks blocks → P (Bulk n blocks (how_of more))) →
+      IfOk (bulk_of_seed seed words) P
+  bulk_seed-keeps None words fits holds = tt
+  bulk_seed-keeps (Some seed) [] fits holds = tt
+  bulk_seed-keeps (Some seed) (blocks ∷ words) fits holds =
+      bulk_numbers-keep seed (number_of blocks_number blocks) words fits (blocks-fit blocks) (λ n more. holds seed n more fits)
+
+  bulk-keeps : (words : List (List ℕ)) →
+      ((n blocks : ℕ) (more : List (List ℕ)) → IsSeed n → AreBlocks blocks → P (Bulk n blocks (how_of more))) →
+      IfOk (bulk_of words) P
+  bulk-keeps [] holds = tt
+  bulk-keeps (seed ∷ words) holds = bulk_seed-keeps (number_of seed_number seed) words (seed-fits seed) holds
+
   -- what holds of the command of each kind of words holds of the command of all words
   command-keeps :
       ((words : List (List ℕ)) → P (Quiet (Plan (params_of words) (how_of words).workers (how_of words).segment))) →
       ((words : List (List ℕ)) → P (Quiet (Init (params_of words)))) →
-      ((name : List ℕ) (more : List (List ℕ)) → IsName name → P (Ingest name (how_of more))) → P (Quiet ListSessions) →
+      ((name : List ℕ) (more : List (List ℕ)) → IsName name → P (Ingest name (how_of more))) →
+      ((n blocks : ℕ) (more : List (List ℕ)) → IsSeed n → AreBlocks blocks → P (Bulk n blocks (how_of more))) →
+      P (Quiet ListSessions) →
       ((name : List ℕ) → IsName name → P (Quiet (Restore name))) →
       ((name : List ℕ) → IsName name → P (Quiet (Drop name))) → P (Quiet Refs) →
       (words : List (List ℕ)) → IfOk (command_of words) P
-  command-keeps plan init ingest list restore drop refs [] = tt
-  command-keeps plan init ingest list restore drop refs (word ∷ words) =
+  command-keeps plan init ingest bulk list restore drop refs [] = tt
+  command-keeps plan init ingest bulk list restore drop refs (word ∷ words) =
       let bad_parameter = first_bad_word params_keys [] 1 words in
       let planned = Quiet (Plan (params_of words) (how_of words).workers (how_of words).segment) in
       either (bytes_eq word (codes "plan")) _ _ (unless_bad-keeps (first_bad_word plan_keys [] 1 words) planned (plan words))
@@ -124,6 +165,7 @@ module _ (P : Command → Type 0) where
       (unless_bad-keeps bad_parameter (Quiet (Init (params_of words))) (init words))
       (either (bytes_eq word (codes "ingest")) _ _
       (session_command-keeps how_keys (λ name more. Ingest name (how_of more)) words ingest)
+      (either (bytes_eq word (codes "bulk")) _ _ (bulk-keeps words bulk)
       (either (bytes_eq word (codes "list")) _ _
       (unless_bad-keeps (first_bad_word [] [] 1 words) (Quiet ListSessions) list)
       (either (bytes_eq word (codes "restore")) _ _
@@ -131,18 +173,19 @@ module _ (P : Command → Type 0) where
       (either (bytes_eq word (codes "drop")) _ _
       (session_command-keeps [] (λ name more. Quiet (Drop name)) words (λ name more. drop name))
       (either (bytes_eq word (codes "refs")) _ _
-      (unless_bad-keeps (first_bad_word [] [] 1 words) (Quiet Refs) refs) tt))))))
+      (unless_bad-keeps (first_bad_word [] [] 1 words) (Quiet Refs) refs) tt)))))))
 
 pub numbers_in_range : (words : List (List ℕ)) → IfOk (command_of words) HasNumbersInRange
 numbers_in_range =
     command-keeps HasNumbersInRange (λ words. ((how-fits words).workers, (how-fits words).segment)) (λ words. tt)
-    (λ name more is_name. how-fits more) tt (λ name is_name. tt) (λ name is_name. tt) tt
+    (λ name more is_name. how-fits more) (λ seed blocks more fits are. (fits, are, how-fits more)) tt (λ name is_name. tt) (λ name is_name. tt) tt
 
 pub names_of_sessions : (words : List (List ℕ)) → IfOk (command_of words) HasSessionName
 names_of_sessions =
-    command-keeps HasSessionName (λ words. tt) (λ words. tt) (λ name more is_name. is_name) tt (λ name is_name. is_name)
-    (λ name is_name. is_name) tt
+    command-keeps HasSessionName (λ words. tt) (λ words. tt) (λ name more is_name. is_name)
+    (λ seed blocks more fits are. bulk_name-is_name seed blocks fits are) tt (λ name is_name. is_name) (λ name is_name. is_name) tt
 
 pub raw_params : (words : List (List ℕ)) → IfOk (command_of words) HasRawParams
 raw_params =
-    command-keeps HasRawParams params-fit params-fit (λ name more is_name. tt) tt (λ name is_name. tt) (λ name is_name. tt) tt
+    command-keeps HasRawParams params-fit params-fit (λ name more is_name. tt) (λ seed blocks more fits are. tt) tt
+    (λ name is_name. tt) (λ name is_name. tt) tt

@@ -19,6 +19,8 @@ pub mod Cuttings
 pub mod Ranges
 -- bytes are a name if and only if they are not refused, and how a `Name` keeps them
 pub mod Names
+-- the bytes of the generator, joined and counted, and the name of the session of `bulk`
+pub mod Generator
 -- what words give a command is in its range
 pub mod Commands
 -- the distinct chunks of a longer list begin with those of a shorter one

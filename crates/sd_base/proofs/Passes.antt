@@ -8,6 +8,7 @@ use Rattle.std.proofs.lemmas.List.Elements.{All-append, All-from_recursion, recu
 use Rattle.std.proofs.lemmas.List.Folds.{position_or_len_push}
 use Rattle.std.proofs.lemmas.List.Sums.{fold-append}
 use Rattle.std.proofs.lemmas.Slice.Eq.{bytes_eq-Decides}
+use Rattle.sd_base.specs.Generator.{bulk_input, bulk_name}
 use Rattle.sd_base.specs.Commands.{HasSessionName, HasRawParams}
 use Rattle.sd_base.specs.Cutting.{chunks_of}
 use Rattle.sd_base.specs.Distinct.{distinct}
@@ -22,7 +23,7 @@ use Rattle.sd_base.specs.declared.params.BadParams.{BadParams as BadParameter}
 use Rattle.sd_base.specs.declared.raw_params.RawParams.{RawParams}
 use Rattle.sd_base.specs.declared.words.BadWords.{BadWords as Refusal}
 use Rattle.sd_base.specs.declared.words.Command.{Command}
-use Rattle.sd_base.specs.declared.words.Command.TheVariants.{Quiet, Ingest}
+use Rattle.sd_base.specs.declared.words.Command.TheVariants.{Quiet, Ingest, Bulk}
 use Rattle.sd_base.specs.declared.words.Quiet.TheVariants.{Plan, Init, List as ListSessions, Restore, Drop, Refs}
 use Rattle.sd_base.proofs.Covering.{concat-chunks_of}
 use Rattle.sd_base.proofs.HeldStates.{length-with_drop}
@@ -241,6 +242,11 @@ lawful-after (Ok command) named fits None input lawful = tt
 lawful-after (Ok (Ingest name how)) named fits (Some state) input lawful =
     lawful-unless_refused (refusal_of_ingest state name input) state _ lawful
     (λ none. lawful-with_session state name input lawful named (may_take_in state name input none))
+lawful-after (Ok (Bulk seed blocks how)) named fits (Some state) input lawful =
+    let name = bulk_name seed blocks in
+    let made = bulk_input seed blocks in
+    lawful-unless_refused (refusal_of_ingest state name made) state _ lawful
+    (λ none. lawful-with_session state name made lawful named (may_take_in state name made none))
 lawful-after (Ok (Quiet ListSessions)) named fits (Some state) input lawful = lawful
 lawful-after (Ok (Quiet (Restore name))) named fits (Some state) input lawful =
     let found = live_session_named (sessions_in state) name in
@@ -294,6 +300,9 @@ state-stays (Ok (Quiet (Plan raw workers segment))) state input undone = plan-st
 state-stays (Ok (Quiet (Init raw))) state input undone = init-stays (bad_parameter raw) raw state undone
 state-stays (Ok (Ingest name how)) None input undone = refl
 state-stays (Ok (Ingest name how)) (Some state) input undone = ingest-stays (refusal_of_ingest state name input) state _ refl undone
+state-stays (Ok (Bulk seed blocks how)) None input undone = refl
+state-stays (Ok (Bulk seed blocks how)) (Some state) input undone =
+    ingest-stays (refusal_of_ingest state (bulk_name seed blocks) (bulk_input seed blocks)) state _ refl undone
 state-stays (Ok (Quiet ListSessions)) None input undone = refl
 state-stays (Ok (Quiet ListSessions)) (Some state) input undone = absurd (undone refl)
 state-stays (Ok (Quiet (Restore name))) None input undone = refl

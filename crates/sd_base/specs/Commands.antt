@@ -1,13 +1,14 @@
 -- The fields of commands, and the ranges of their numbers. How a command is carried out enters no
 -- definition of an outcome, a text or a state. All rules here are this project's own.
 use Rattle.std.specs.Prelude.{ℕ, ◌^◌, ◌<◌, ◌≤◌, ⊤}
+use Rattle.sd_base.specs.Generator.{bulk_name}
 use Rattle.sd_base.specs.Names.{IsName}
 use Rattle.sd_base.specs.declared.how.How.{How}
-use Rattle.sd_base.specs.declared.limits.TheConstants.{MAX_WORKERS, MAX_SEGMENT, MIN_BATCH, MAX_BATCH, MAX_SHARDS}
+use Rattle.sd_base.specs.declared.limits.TheConstants.{MAX_WORKERS, MAX_SEGMENT, MIN_BATCH, MAX_BATCH, MAX_SHARDS, MAX_BLOCKS}
 use Rattle.sd_base.specs.declared.raw_params.RawParams.{RawParams}
 use Rattle.sd_base.specs.declared.words.Quiet.TheVariants.{Plan, Init, List, Restore, Drop, Refs}
 use Rattle.sd_base.specs.declared.words.Command.{Command}
-use Rattle.sd_base.specs.declared.words.Command.TheVariants.{Quiet, Ingest}
+use Rattle.sd_base.specs.declared.words.Command.TheVariants.{Quiet, Ingest, Bulk}
 
 -- a number of workers
 abbrev pub AreWorkers : ℕ → Type 0
@@ -24,6 +25,14 @@ pub record IsHow (how : How) : Type 0 where
   pub batch : (MIN_BATCH ≤ how.batch) × (how.batch ≤ MAX_BATCH)
   pub shards : (1 ≤ how.shards) × (how.shards ≤ MAX_SHARDS)
 
+-- a seed of `bulk`
+abbrev pub IsSeed : ℕ → Type 0
+IsSeed n = n < 2 ^ 64
+
+-- a number of blocks of `bulk`
+abbrev pub AreBlocks : ℕ → Type 0
+AreBlocks n = (1 ≤ n) × (n ≤ MAX_BLOCKS)
+
 -- the numbers with which a command is carried out are in their ranges
 abbrev pub HasNumbersInRange : Command → Type 0
 HasNumbersInRange (Quiet (Plan raw workers segment)) = AreWorkers workers × IsSegment segment
@@ -33,8 +42,9 @@ HasNumbersInRange (Quiet (Restore name)) = ⊤
 HasNumbersInRange (Quiet (Drop name)) = ⊤
 HasNumbersInRange (Quiet Refs) = ⊤
 HasNumbersInRange (Ingest name how) = IsHow how
+HasNumbersInRange (Bulk seed blocks how) = IsSeed seed × AreBlocks blocks × IsHow how
 
--- the name in a command, if it has one, is that of a session
+-- the name that a command gives a session or finds it by, if it does, is one of a session
 abbrev pub HasSessionName : Command → Type 0
 HasSessionName (Quiet (Plan raw workers segment)) = ⊤
 HasSessionName (Quiet (Init raw)) = ⊤
@@ -43,6 +53,7 @@ HasSessionName (Quiet (Restore name)) = IsName name
 HasSessionName (Quiet (Drop name)) = IsName name
 HasSessionName (Quiet Refs) = ⊤
 HasSessionName (Ingest name how) = IsName name
+HasSessionName (Bulk seed blocks how) = IsName (bulk_name seed blocks)
 
 -- the numbers fit a `RawParams`
 pub record AreRawParams (raw : RawParams) : Type 0 where
@@ -61,3 +72,4 @@ HasRawParams (Quiet (Restore name)) = ⊤
 HasRawParams (Quiet (Drop name)) = ⊤
 HasRawParams (Quiet Refs) = ⊤
 HasRawParams (Ingest name how) = ⊤
+HasRawParams (Bulk seed blocks how) = ⊤

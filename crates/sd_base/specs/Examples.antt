@@ -2,7 +2,7 @@
 -- another source: modulo t^63 + 1 the exponent of a power of t counts modulo 63, the fingerprint
 -- under the default polynomial was worked out by long division, and the name of `abc` is an example
 -- of FIPS 180-2.
-use Rattle.std.specs.Prelude.{◌≡◌, ℕ, ◌^◌, List, [], ◌∷◌, ◌++◌, replicate, take, codes, true, false, Some, None, Ok}
+use Rattle.std.specs.Prelude.{◌≡◌, ℕ, ◌^◌, List, [], ◌∷◌, ◌++◌, map, replicate, take, codes, true, false, Some, None, Ok}
 use Rattle.std.specs.Int.Count.{count_leading_zeros}
 use Rattle.std.specs.Fmt.{digits}
 use Rattle.std.specs.List.{range_with_len}
@@ -12,6 +12,7 @@ use Rattle.sha2.specs.Sha256.{sha256, digest_bytes, hash_after, compress, rounds
 use Rattle.sd_base.specs.Parameters.{IsValid}
 use Rattle.sd_base.specs.Polynomial.{remainder, fingerprint}
 use Rattle.sd_base.specs.Cutting.{is_match, next_cut, cuts_within, cuts_of, chunks_of}
+use Rattle.sd_base.specs.Generator.{bulk_name, bytes_after, first_state, origin_of}
 use Rattle.sd_base.specs.Names.{bad_name}
 use Rattle.sd_base.specs.Packing.{packing}
 use Rattle.sd_base.specs.Words.{default_params, default_plan, default_how, bad_word, command_of}
@@ -20,17 +21,17 @@ use Rattle.sd_base.specs.Books.{sessions_of, places_in, live_session, recipe_fla
 use Rattle.sd_base.specs.Texts.{plan_text}
 use Rattle.sd_base.specs.OnePass.{one_pass, refusal, success}
 use Rattle.sd_base.specs.declared.raw_params.RawParams.{RawParams}
-use Rattle.sd_base.specs.declared.limits.TheConstants.{WINDOW, MIN_POLYNOMIAL, MAX_BITS, MIN_CHUNK_LEN, MAX_NAME, MAX_INPUT, MAX_CHUNKS, MAX_PLACES, MAX_SESSIONS, MAX_CONTAINER, CONTAINER_HEADER, MAX_CHUNK_LEN, DEFAULT_POLYNOMIAL, DEFAULT_BITS, DEFAULT_TARGET, DEFAULT_MIN, DEFAULT_MAX, DEFAULT_WORKERS, DEFAULT_SEGMENT, DEFAULT_BATCH, DEFAULT_SHARDS, MAX_WORKERS, MAX_SEGMENT, MIN_BATCH, MAX_BATCH, MAX_SHARDS}
+use Rattle.sd_base.specs.declared.limits.TheConstants.{WINDOW, MIN_POLYNOMIAL, MAX_BITS, MIN_CHUNK_LEN, MAX_NAME, MAX_INPUT, MAX_CHUNKS, MAX_PLACES, MAX_SESSIONS, MAX_CONTAINER, CONTAINER_HEADER, MAX_CHUNK_LEN, DEFAULT_POLYNOMIAL, DEFAULT_BITS, DEFAULT_TARGET, DEFAULT_MIN, DEFAULT_MAX, DEFAULT_WORKERS, DEFAULT_SEGMENT, DEFAULT_BATCH, DEFAULT_SHARDS, MAX_WORKERS, MAX_SEGMENT, MIN_BATCH, MAX_BATCH, MAX_SHARDS, BLOCK_STATES, MAX_BLOCKS}
 use Rattle.sd_base.specs.declared.record.TheConstants.{INGEST_KIND, DROP_KIND, NUMBER_LEN, DIGEST_LEN, AROUND_BODY}
 use Rattle.sd_base.specs.declared.name.BadName.TheVariants.{Length, Letter}
 use Rattle.sd_base.specs.declared.params.BadParams.TheVariants.{Bits}
-use Rattle.sd_base.specs.declared.words.BadKind.TheVariants.{Missing, Command as NoCommand, Name as NoName, Key as NoKey, Twice, Value}
+use Rattle.sd_base.specs.declared.words.BadKind.TheVariants.{Missing, Command as NoCommand, Name as NoName, Number as NoNumber, Key as NoKey, Twice, Value}
 use Rattle.sd_base.specs.declared.damage.Damage.TheVariants.{Recipe}
 use Rattle.sd_base.specs.declared.record.NewChunk.{NewChunk}
 use Rattle.sd_base.specs.declared.record.IngestRecord.{IngestRecord}
 use Rattle.sd_base.specs.declared.record.Record.TheVariants.{Ingest as IngestEntry, Drop}
 use Rattle.sd_base.specs.declared.words.Quiet.TheVariants.{Plan, Init, List as ListSessions, Restore}
-use Rattle.sd_base.specs.declared.words.Command.TheVariants.{Quiet, Ingest}
+use Rattle.sd_base.specs.declared.words.Command.TheVariants.{Quiet, Ingest, Bulk}
 use Rattle.sd_base.specs.declared.outcome.Outcome.TheVariants.{BadParams}
 
 -- the parameters that are used if none is given are valid
@@ -105,6 +106,12 @@ MAX_WORKERS-is = refl
 
 pub MAX_SEGMENT-is : MAX_SEGMENT ≡ 2 ^ 28
 MAX_SEGMENT-is = refl
+
+pub BLOCK_STATES-is : BLOCK_STATES ≡ 16384
+BLOCK_STATES-is = refl
+
+pub MAX_BLOCKS-is : MAX_BLOCKS ≡ 4096
+MAX_BLOCKS-is = refl
 
 pub MIN_BATCH-is : MIN_BATCH ≡ 65536
 MIN_BATCH-is = refl
@@ -335,6 +342,29 @@ command_of-ingest_with_batch = refl
 pub command_of-ingest_with_bits : command_of (codes "ingest" ∷ codes "a" ∷ codes "bits=9" ∷ []) ≡ bad_word NoKey 2
 command_of-ingest_with_bits = refl
 
+pub command_of-bulk :
+    command_of (codes "bulk" ∷ codes "18446744073709551615" ∷ codes "4096" ∷ codes "workers=8" ∷ [])
+    ≡ Ok (Bulk 18446744073709551615 4096 (record default_how { workers = 8 }))
+command_of-bulk = refl
+
+-- the first word that fails decides: a seed that is no number, or no word for the number of blocks
+pub command_of-bulk_without_blocks : command_of (codes "bulk" ∷ codes "7" ∷ []) ≡ bad_word Missing 2
+command_of-bulk_without_blocks = refl
+
+pub command_of-bulk_leading_zero : command_of (codes "bulk" ∷ codes "07" ∷ []) ≡ bad_word NoNumber 1
+command_of-bulk_leading_zero = refl
+
+pub command_of-bulk_without_a_block : command_of (codes "bulk" ∷ codes "7" ∷ codes "0" ∷ []) ≡ bad_word NoNumber 2
+command_of-bulk_without_a_block = refl
+
+pub command_of-bulk_too_many_blocks : command_of (codes "bulk" ∷ codes "7" ∷ codes "4097" ∷ []) ≡ bad_word NoNumber 2
+command_of-bulk_too_many_blocks = refl
+
+-- a word after both numbers sets a key
+pub command_of-bulk_with_a_key_twice :
+    command_of (codes "bulk" ∷ codes "0" ∷ codes "1" ∷ codes "workers=2" ∷ codes "workers=2" ∷ []) ≡ bad_word Twice 4
+command_of-bulk_with_a_key_twice = refl
+
 pub command_of-list : command_of (codes "list" ∷ []) ≡ Ok (Quiet ListSessions)
 command_of-list = refl
 
@@ -366,6 +396,30 @@ default_how-of_the_constants = refl
 pub one_pass-seventeen_bits :
     one_pass (codes "plan" ∷ codes "max=1" ∷ codes "bits=17" ∷ []) None [] ≡ refusal None (BadParams Bits)
 one_pass-seventeen_bits = refl
+
+-- the generator: the first bytes of the blocks 0 and 1 from the seed 7, and those from the greatest
+-- seed, worked out apart from this project's code
+pub bytes_after-seed_7 : bytes_after (first_state 7 0) 2 ≡ 151 ∷ 40 ∷ 155 ∷ 94 ∷ 133 ∷ 29 ∷ 161 ∷ 187 ∷ []
+unfolding bytes_after
+bytes_after-seed_7 = refl
+
+pub bytes_after-block_1 : bytes_after (first_state 7 1) 2 ≡ 176 ∷ 14 ∷ 14 ∷ 1 ∷ 21 ∷ 149 ∷ 40 ∷ 246 ∷ []
+unfolding bytes_after
+bytes_after-block_1 = refl
+
+pub bytes_after-greatest_seed :
+    bytes_after (first_state 18446744073709551615 0) 2 ≡ 212 ∷ 152 ∷ 249 ∷ 244 ∷ 66 ∷ 32 ∷ 220 ∷ 171 ∷ []
+unfolding bytes_after
+bytes_after-greatest_seed = refl
+
+-- the blocks 3 and 7 repeat the blocks 0 and 4, and no other of the first eight repeats one
+pub origin_of-blocks :
+    map origin_of (range_with_len 0 8) ≡ 0 ∷ 1 ∷ 2 ∷ 0 ∷ 4 ∷ 5 ∷ 6 ∷ 4 ∷ []
+origin_of-blocks = refl
+
+pub bulk_name-is : bulk_name 7 640 ≡ codes "bulk.7.640"
+unfolding bulk_name digits
+bulk_name-is = refl
 
 -- two chunks in one container, after its header
 pub packing-two_chunks : packing (replicate 64 0 ∷ replicate 8 0 ∷ []) ≡ (codes "SSCP" ++ replicate 76 0) ∷ []

@@ -40,6 +40,8 @@ pub mod Opening
 pub mod Flaws
 -- what an audit tells of a store without a flaw
 pub mod Audits
+-- the input of `bulk`
+pub mod Generator
 -- words of the form KEY=VALUE
 pub mod Keys
 -- the words of the command line and the command that they name

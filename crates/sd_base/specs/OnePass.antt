@@ -3,6 +3,7 @@
 -- rules here are this project's own.
 use Rattle.std.specs.Prelude.{ℕ, nat_le, nat_lt, List, [], length, Option, Some, None, is_some, Result, Ok, Err, if◌then◌else◌}
 use Rattle.sd_base.specs.Cutting.{chunks_of}
+use Rattle.sd_base.specs.Generator.{bulk_input, bulk_name}
 use Rattle.sd_base.specs.Parameters.{bad_parameter}
 use Rattle.sd_base.specs.Rows.{reference_rows_of_state, rows_of_state}
 use Rattle.sd_base.specs.States.{State, bytes_of_number, dropped, followed_by_event, live_session_named, new_state, placed_chunks, places_of_number, sessions_in, stored_chunks, with_session}
@@ -14,7 +15,7 @@ use Rattle.sd_base.specs.declared.raw_params.RawParams.{RawParams}
 use Rattle.sd_base.specs.declared.words.BadWords.{BadWords as Refusal}
 use Rattle.sd_base.specs.declared.words.Quiet.TheVariants.{Plan, Init, List as ListSessions, Restore, Drop, Refs}
 use Rattle.sd_base.specs.declared.words.Command.{Command}
-use Rattle.sd_base.specs.declared.words.Command.TheVariants.{Quiet, Ingest}
+use Rattle.sd_base.specs.declared.words.Command.TheVariants.{Quiet, Ingest, Bulk}
 use Rattle.sd_base.specs.declared.outcome.Outcome.{Outcome}
 use Rattle.sd_base.specs.declared.outcome.Outcome.TheVariants.{Done, BadWords, BadParams, NoStore, StoreThere, NameTaken, NoSession, InputTooLong, TooManySessions, TooManyPlaces, TooManyChunks}
 
@@ -99,11 +100,13 @@ pass_of_drop name (Some k) state =
 abbrev pub pass_of_refs : State → Pass
 pass_of_refs state = success (Some state) (refs_text (reference_rows_of_state state))
 
--- a command on a state and an input
+-- A command on a state and an input. `bulk` makes its own input, and takes it in as `ingest` does.
 abbrev pub pass_of_command : Command → Option State → List ℕ → Pass
 pass_of_command (Quiet (Plan params _ _)) state input = pass_of_plan (bad_parameter params) params state input
 pass_of_command (Quiet (Init params)) state input = pass_of_init (bad_parameter params) params state
 pass_of_command (Ingest name _) state input = in_store (pass_of_ingest name input) state
+pass_of_command (Bulk seed blocks _) state input =
+    in_store (pass_of_ingest (bulk_name seed blocks) (bulk_input seed blocks)) state
 pass_of_command (Quiet ListSessions) state input = in_store pass_of_list state
 pass_of_command (Quiet (Restore name)) state input =
     in_store (λ store. pass_of_restore (live_session_named (sessions_in store) name) store) state

@@ -1,17 +1,17 @@
 -- The words of the command line, as lists of bytes, and the command that they name.
 use Rattle.std.specs.Prelude.{ℕ, ◌-◌, ◌^◌, List, [], ◌∷◌, ◌++◌, codes, Option, Some, None, is_some, Result, Ok, Err, if◌then◌else◌}
 use Rattle.std.specs.Str.{bytes_eq}
-use Rattle.sd_base.specs.Keys.{Key, decimal_key, first_bad_word, value_or_default}
+use Rattle.sd_base.specs.Keys.{Key, decimal_key, first_bad_word, number_of, value_or_default}
 use Rattle.sd_base.specs.Names.{bad_name}
 use Rattle.sd_base.specs.declared.how.How.{How}
-use Rattle.sd_base.specs.declared.limits.TheConstants.{MAX_SEGMENT, MAX_WORKERS}
+use Rattle.sd_base.specs.declared.limits.TheConstants.{MAX_BLOCKS, MAX_SEGMENT, MAX_WORKERS}
 use Rattle.sd_base.specs.declared.raw_params.RawParams.{RawParams}
 use Rattle.sd_base.specs.declared.words.BadKind.{BadKind}
-use Rattle.sd_base.specs.declared.words.BadKind.TheVariants.{Missing, Command as NoCommand, Name as NoName}
+use Rattle.sd_base.specs.declared.words.BadKind.TheVariants.{Missing, Command as NoCommand, Name as NoName, Number as NoNumber}
 use Rattle.sd_base.specs.declared.words.BadWords.{BadWords}
 use Rattle.sd_base.specs.declared.words.Quiet.TheVariants.{Plan, Init, List as ListSessions, Restore, Drop, Refs}
 use Rattle.sd_base.specs.declared.words.Command.{Command}
-use Rattle.sd_base.specs.declared.words.Command.TheVariants.{Quiet, Ingest}
+use Rattle.sd_base.specs.declared.words.Command.TheVariants.{Quiet, Ingest, Bulk}
 
 -- The parameters of cutting if none are given. The number of bits, the minimum and the maximum are
 -- those of LBFS (SOSP 2001, section 3.1); the polynomial and the target are this project's own.
@@ -25,7 +25,7 @@ default_workers = 4
 abbrev pub default_segment : ℕ
 default_segment = 65536
 
--- how an ingest is carried out if no key is given. No word sets the bytes of a batch and the number
+-- how `ingest` and `bulk` are carried out if no key is given. No word sets the bytes of a batch and the number
 -- of shards yet.
 abbrev pub default_how : How
 default_how = record { workers = default_workers; segment = default_segment; batch = 1048576; shards = 16 }
@@ -114,6 +114,31 @@ session_command_of keys command (name ∷ words) =
 abbrev pub ingest_of : List (List ℕ) → Result Command BadWords
 ingest_of words = session_command_of how_keys (λ name more. Ingest name (how_of more)) words
 
+-- The numbers of `bulk`: words that are spelled as the decimal values of keys are. Their names are
+-- those in the manual.
+abbrev pub seed_number : Key
+seed_number = decimal_key (codes "SEED") 0 (2 ^ 64 - 1)
+
+abbrev pub blocks_number : Key
+blocks_number = decimal_key (codes "BLOCKS") 1 MAX_BLOCKS
+
+-- the words after the numbers of `bulk`, from the second number if the word for it is one
+abbrev pub bulk_of_numbers : ℕ → Option ℕ → List (List ℕ) → Result Command BadWords
+bulk_of_numbers seed None words = bad_word NoNumber 2
+bulk_of_numbers seed (Some blocks) words =
+    unless_bad (first_bad_word how_keys [] 3 words) (Bulk seed blocks (how_of words))
+
+-- the words after the seed of `bulk`, if the word for it is a number
+abbrev pub bulk_of_seed : Option ℕ → List (List ℕ) → Result Command BadWords
+bulk_of_seed None words = bad_word NoNumber 1
+bulk_of_seed (Some seed) [] = bad_word Missing 2
+bulk_of_seed (Some seed) (blocks ∷ words) = bulk_of_numbers seed (number_of blocks_number blocks) words
+
+-- the words after `bulk`
+abbrev pub bulk_of : List (List ℕ) → Result Command BadWords
+bulk_of [] = bad_word Missing 1
+bulk_of (seed ∷ words) = bulk_of_seed (number_of seed_number seed) words
+
 -- the words after `list`
 abbrev pub list_of : List (List ℕ) → Result Command BadWords
 list_of words = unless_bad (first_bad_word [] [] 1 words) (Quiet ListSessions)
@@ -137,6 +162,7 @@ command_of (word ∷ words) =
     if bytes_eq word (codes "plan") then plan_of words
     else if bytes_eq word (codes "init") then init_of words
     else if bytes_eq word (codes "ingest") then ingest_of words
+    else if bytes_eq word (codes "bulk") then bulk_of words
     else if bytes_eq word (codes "list") then list_of words
     else if bytes_eq word (codes "restore") then restore_of words
     else if bytes_eq word (codes "drop") then drop_of words

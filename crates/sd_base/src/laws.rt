@@ -1,7 +1,7 @@
 //! Laws of the definitions in `specs/`. Each is the contract of a function that does nothing, and
 //! holds for all parameters and inputs that it names.
 
-ghost use Rattle.sd_base.specs.Laws.{OnePositionIsTheNextCut, AnEmptyInputHasNoChunks, TheTailIsCutAlone, ChunksJoinToTheInput, ChunksAreFilledAndBounded, ChunksReachTheMinimum, RangesAreTheRefusals, NamesAreTheRefusals, WordsGiveNumbersInRange, WordsGiveNames, WordsGiveRawParams};
+ghost use Rattle.sd_base.specs.Laws.{OnePositionIsTheNextCut, AnEmptyInputHasNoChunks, TheTailIsCutAlone, ChunksJoinToTheInput, ChunksAreFilledAndBounded, ChunksReachTheMinimum, RangesAreTheRefusals, NamesAreTheRefusals, WordsGiveNumbersInRange, WordsGiveNames, WordsGiveRawParams, BulkInputsHaveTheirLength};
 
 /// The next cut by search is the next cut by the relation that has no search in it.
 pub fn next_cut_is_the_least()
@@ -32,6 +32,11 @@ pub fn ranges_are_the_refusals()
 /// `Name::read` refuses bytes if and only if they are no name of a session.
 pub fn names_are_the_refusals()
     ensures { NamesAreTheRefusals }
+{}
+
+/// The input of `bulk` is as long as its blocks: with the most blocks, as long as the longest input.
+pub fn bulk_inputs_have_their_length()
+    ensures { BulkInputsHaveTheirLength }
 {}
 
 /// What words give a command is in its range, so that a run of words needs no condition on them.

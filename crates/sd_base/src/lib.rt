@@ -39,16 +39,17 @@ pub use flaw_laws::{
 pub use gate::{Gate, OpenGate, Stage};
 pub use how::How;
 pub use laws::{
-    chunks_cover_the_input, chunks_go_on_in_the_tail, names_are_the_refusals,
-    next_cut_is_the_least, ranges_are_the_refusals, words_give_fields_in_range,
+    bulk_inputs_have_their_length, chunks_cover_the_input, chunks_go_on_in_the_tail,
+    names_are_the_refusals, next_cut_is_the_least, ranges_are_the_refusals,
+    words_give_fields_in_range,
 };
 pub use limits::{
-    COMMIT_BYTE, CONTAINER_HEADER, DEFAULT_BATCH, DEFAULT_BITS, DEFAULT_MAX, DEFAULT_MIN,
-    DEFAULT_POLYNOMIAL, DEFAULT_SEGMENT, DEFAULT_SHARDS, DEFAULT_TARGET, DEFAULT_WORKERS,
-    MAX_BATCH, MAX_BITS, MAX_CHUNK_LEN, MAX_CHUNKS, MAX_CONTAINER, MAX_GENERATION, MAX_INPUT,
-    MAX_NAME, MAX_PLACES, MAX_SEGMENT, MAX_SESSIONS, MAX_SHARDS, MAX_WORKERS, METHOD_RABIN,
-    MIN_BATCH, MIN_CHUNK_LEN, MIN_POLYNOMIAL, OPEN_HEAD_LEN, SETTINGS_LEN, SETTINGS_VERSION,
-    WINDOW,
+    BLOCK_LEN, BLOCK_STATES, COMMIT_BYTE, CONTAINER_HEADER, DEFAULT_BATCH, DEFAULT_BITS,
+    DEFAULT_MAX, DEFAULT_MIN, DEFAULT_POLYNOMIAL, DEFAULT_SEGMENT, DEFAULT_SHARDS, DEFAULT_TARGET,
+    DEFAULT_WORKERS, MAX_BATCH, MAX_BITS, MAX_BLOCKS, MAX_CHUNK_LEN, MAX_CHUNKS, MAX_CONTAINER,
+    MAX_GENERATION, MAX_INPUT, MAX_NAME, MAX_PLACES, MAX_SEGMENT, MAX_SESSIONS, MAX_SHARDS,
+    MAX_WORKERS, METHOD_RABIN, MIN_BATCH, MIN_CHUNK_LEN, MIN_POLYNOMIAL, OPEN_HEAD_LEN,
+    SETTINGS_LEN, SETTINGS_VERSION, STATE_BYTES, WINDOW,
 };
 pub use name::{BadName, Name};
 pub use out_of_memory::OutOfMemory;

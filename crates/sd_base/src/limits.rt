@@ -74,6 +74,18 @@ pub const MAX_BATCH: u32 = 16_777_216;
 /// The most shards.
 pub const MAX_SHARDS: u32 = 256;
 
+/// Bytes that a state of the generator of `bulk` gives: its high half.
+pub const STATE_BYTES: u32 = 4;
+
+/// The states of a block of `bulk`.
+pub const BLOCK_STATES: u32 = 16_384;
+
+/// Bytes of a block of `bulk`.
+pub const BLOCK_LEN: u32 = STATE_BYTES * BLOCK_STATES;
+
+/// The most blocks of `bulk`: together they are as long as the longest input.
+pub const MAX_BLOCKS: u32 = 4096;
+
 /// The polynomial that is used if none is given: of degree 53, one bit a coefficient.
 pub const DEFAULT_POLYNOMIAL: u64 = 0x3D_A335_8B4D_C173;
 
@@ -120,3 +132,5 @@ const _: () = prove!(MIN_BATCH <= DEFAULT_BATCH && DEFAULT_BATCH <= MAX_BATCH);
 const _: () = prove!(DEFAULT_SHARDS <= MAX_SHARDS);
 
 const _: () = prove!(CONTAINER_HEADER + MAX_CHUNK_LEN <= MAX_CONTAINER);
+
+const _: () = prove!(BLOCK_LEN * MAX_BLOCKS == MAX_INPUT);

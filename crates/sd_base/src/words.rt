@@ -61,4 +61,7 @@ pub enum Command {
     Quiet(Quiet),
     /// Takes the input into the store as a session of this name.
     Ingest { name: Name, how: How },
+    /// Takes blocks of bytes that follow from a seed into the store, as a session that is named for
+    /// both numbers.
+    Bulk { seed: u64, blocks: u32, how: How },
 }
