@@ -11,7 +11,7 @@ use Rattle.sd_base.specs.declared.outcome.Outcome.{Outcome}
 use Rattle.sd_base.specs.declared.outcome.Outcome.TheVariants.{Done, BadWords, BadParams, NoStore, StoreThere, NameTaken, NoSession, Damaged, InputTooLong, TooManySessions, TooManyPlaces, TooManyChunks, SourceFault, SinkFault, ShelfFault, OutOfMemory}
 use Rattle.sd_base.specs.declared.words.BadWords.{BadWords as Refusal}
 use Rattle.sd_base.specs.declared.words.Command.{Command}
-use Rattle.sd_base.specs.declared.words.Command.TheVariants.{Quiet as quiet, Ingest}
+use Rattle.sd_base.specs.declared.words.Command.TheVariants.{Quiet as quiet, Ingest, Bulk}
 use Rattle.sd_base.specs.declared.words.Quiet.TheVariants.{Plan, Init, List as ListSessions, Restore, Drop, Refs}
 use Rattle.sd_base.proofs.Passes.{state-stays}
 use Rattle.backup_top.specs.InMemory.{EndsInMemory, IsPass, WritesPrefix}
@@ -29,6 +29,7 @@ needs_held (Ok (quiet (Restore name))) files state held = held
 needs_held (Ok (quiet (Drop name))) files state held = held
 needs_held (Ok (quiet Refs)) files state held = held
 needs_held (Ok (Ingest name how)) files state held = held
+needs_held (Ok (Bulk seed blocks how)) files state held = held
 
 some-in : List ℕ → Option (List ℕ) → List ℕ
 some-in other None = other

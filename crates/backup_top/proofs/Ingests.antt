@@ -690,7 +690,7 @@ ends-by opened name input (Err other) ending ends by = record {
   chunk (inl among) = inl (inr (inr (subst (IsOneOf (outcome.OutOfMemory ∷ outcome.ShelfFault ∷ outcome.TooManyChunks ∷ outcome.SourceFault ∷ [])) (sym ends) among)))
   chunk (inr found) = inr (found.0, found.1, ends ∙ found.2)
 
-by_records-told : (told : Option (File → List ℕ)) (opened : Opened) (name input : List ℕ) (made : Made) (ending : Outcome)
+pub by_records-told : (told : Option (File → List ℕ)) (opened : Opened) (name input : List ℕ) (made : Made) (ending : Outcome)
     → MayEnd made ending → IfSome told (λ files. OpenAs files opened → TakesByBook opened name input made)
     → IfSome told (λ files. OpenAs files opened → IngestsByRecords opened name input ending)
 by_records-told told opened name input made ending ends by =

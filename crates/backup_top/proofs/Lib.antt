@@ -35,3 +35,7 @@ mod Unread
 mod InMemory
 -- a run of `ingest`
 mod Ingests
+-- a run of `bulk`, from one of `ingest`
+mod Bulks
+-- the bytes of the name of the session of `bulk`, put together
+mod BulkNames

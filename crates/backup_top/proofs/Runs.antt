@@ -15,7 +15,7 @@ use Rattle.sd_base.specs.declared.damage.Damage.{Damage}
 use Rattle.sd_base.specs.declared.file.File.{File}
 use Rattle.sd_base.specs.declared.words.BadWords.{BadWords as Refusal}
 use Rattle.sd_base.specs.declared.words.Command.{Command}
-use Rattle.sd_base.specs.declared.words.Command.TheVariants.{Quiet as quiet, Ingest}
+use Rattle.sd_base.specs.declared.words.Command.TheVariants.{Quiet as quiet, Ingest, Bulk}
 use Rattle.sd_base.specs.declared.words.Quiet.TheVariants.{Plan, Init, List as ListSessions, Restore, Drop, Refs}
 use Rattle.sd_base.specs.declared.outcome.Outcome.{Outcome}
 use Rattle.sd_base.specs.declared.outcome.Outcome.TheVariants.{Done, BadWords, BadParams, NoStore, StoreThere, NameTaken, NoSession, Damaged, InputTooLong, TooManySessions, TooManyPlaces, TooManyChunks, SourceFault, SinkFault, ShelfFault, OutOfMemory}
@@ -239,6 +239,7 @@ text-by_records (Ok (quiet Refs)) text outcome files opened before after of writ
   written = subst (λ (t : List ℕ). Writes outcome t before after) makes.0 written;
 }
 text-by_records (Ok (Ingest name how)) text outcome files opened before after of written makes = tt
+text-by_records (Ok (Bulk seed blocks how)) text outcome files opened before after of written makes = tt
 
 refusal-by_records : (command : Result Command Refusal) (refused : Outcome) (files : File → List ℕ)
     (opened : Opened) (written : Option (List ℕ)) → Unmade refused
@@ -261,6 +262,7 @@ refusal-by_records (Ok (quiet Refs)) refused files opened written unmade makes =
   written = unmade.writes (refs_text (reference_rows_of_book opened.book)) written;
 }
 refusal-by_records (Ok (Ingest name how)) refused files opened written unmade makes = tt
+refusal-by_records (Ok (Bulk seed blocks how)) refused files opened written unmade makes = tt
 
 pub always-told : (P : (File → List ℕ) → Type 0) (Q : Type 0) (told : Option (File → List ℕ)) → Q
     → IfSome told (λ files. P files → Q)

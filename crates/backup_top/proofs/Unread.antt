@@ -4,11 +4,12 @@ use Rattle.std.specs.List.{AllByRecursion}
 use Rattle.std.specs.Prelude.{MatchOption, None, Ok, Option, Some}
 use Rattle.sd_base.specs.Parameters.{bad_parameter}
 use Rattle.sd_base.specs.declared.damage.Damage.{Damage}
+use Rattle.sd_base.specs.declared.how.How.{How}
 use Rattle.sd_base.specs.declared.outcome.Outcome.{Outcome}
-use Rattle.sd_base.specs.declared.outcome.Outcome.TheVariants.{Done, BadParams, NoStore, StoreThere, NoSession, Damaged, SourceFault, SinkFault, ShelfFault, OutOfMemory}
+use Rattle.sd_base.specs.declared.outcome.Outcome.TheVariants.{Done, BadParams, NoStore, StoreThere, NameTaken, NoSession, Damaged, TooManySessions, TooManyPlaces, TooManyChunks, SourceFault, SinkFault, ShelfFault, OutOfMemory}
 use Rattle.sd_base.specs.declared.params.BadParams.{BadParams as BadParameter}
 use Rattle.sd_base.specs.declared.raw_params.RawParams.{RawParams}
-use Rattle.sd_base.specs.declared.words.Command.TheVariants.{Quiet as quiet}
+use Rattle.sd_base.specs.declared.words.Command.TheVariants.{Quiet as quiet, Bulk}
 use Rattle.sd_base.specs.declared.words.Quiet.TheVariants.{Init, List as ListSessions, Restore, Drop, Refs}
 use Rattle.backup_top.specs.Outcomes.{IsDamage, IsOneOf}
 use Rattle.backup_top.specs.Run.{MayReturn}
@@ -56,3 +57,10 @@ drop_unread name outcome (inr found) = damaged outcome _ found
 
 pub refs_unread : (outcome : Outcome) → MayReturn (Ok (quiet Refs)) outcome → outcome ≡ SourceFault → ⊥
 refs_unread = list_unread
+
+pub bulk_unread : (seed blocks : ℕ) (how : How) (outcome : Outcome) → MayReturn (Ok (Bulk seed blocks how)) outcome
+    → outcome ≡ SourceFault → ⊥
+bulk_unread seed blocks how outcome (inl among) = one_of (Done ∷ SinkFault ∷ OutOfMemory ∷ NoStore ∷ ShelfFault ∷ NameTaken ∷ TooManySessions ∷ TooManyPlaces ∷ TooManyChunks ∷ [])
+    (λ clash. absurd cc, (λ clash. absurd cc, (λ clash. absurd cc, (λ clash. absurd cc, (λ clash. absurd cc, (λ clash. absurd cc, (λ clash. absurd cc, (λ clash. absurd cc, (λ clash. absurd cc, tt)))))))))
+    outcome among
+bulk_unread seed blocks how outcome (inr found) = damaged outcome _ found

@@ -6,6 +6,7 @@ use Rattle.std.specs.Prelude.{◌≡◌, ◌⊎◌, ⊤, ℕ, List, [], ◌∷�
 use Rattle.sha2.specs.Sha256.{sha256}
 use Rattle.ingest_core.specs.ByBook.{refusal_by_book}
 use Rattle.sd_base.specs.Books.{live_session}
+use Rattle.sd_base.specs.Generator.{bulk_input, bulk_name}
 use Rattle.sd_base.specs.Opening.{Opened}
 use Rattle.sd_base.specs.Rows.{reference_rows_of_book, rows_of_book}
 use Rattle.sd_base.specs.Texts.{dropped_text, list_text, refs_text}
@@ -14,7 +15,7 @@ use Rattle.sd_base.specs.declared.file.File.{File}
 use Rattle.sd_base.specs.declared.record.Session.{Session}
 use Rattle.sd_base.specs.declared.words.BadWords.{BadWords as Refusal}
 use Rattle.sd_base.specs.declared.words.Command.{Command}
-use Rattle.sd_base.specs.declared.words.Command.TheVariants.{Quiet as quiet, Ingest}
+use Rattle.sd_base.specs.declared.words.Command.TheVariants.{Quiet as quiet, Ingest, Bulk}
 use Rattle.sd_base.specs.declared.words.Quiet.TheVariants.{Plan, Init, List as ListSessions, Restore, Drop, Refs}
 use Rattle.sd_base.specs.declared.outcome.Outcome.{Outcome}
 use Rattle.sd_base.specs.declared.outcome.Outcome.TheVariants.{Done, NoSession, Damaged, SinkFault, OutOfMemory, ShelfFault, SourceFault, TooManyChunks}
@@ -82,8 +83,9 @@ GoesByRecords (Ok (quiet (Restore name))) outcome files opened before after =
 GoesByRecords (Ok (quiet (Drop name))) outcome files opened before after = DropsRecords opened name outcome before after
 GoesByRecords (Ok (quiet Refs)) outcome files opened before after = CountsRecords opened outcome before after
 GoesByRecords (Ok (Ingest name how)) outcome files opened before after = ⊤
+GoesByRecords (Ok (Bulk seed blocks how)) outcome files opened before after = ⊤
 
--- `ingest` of an input under a name.
+-- `ingest`, or `bulk`, of an input under a name.
 pub record IngestsByRecords (opened : Opened) (name input : List ℕ) (outcome : Outcome) : Type 0 where
   -- It is refused as the names, the sessions and the places of the records say, unless a device
   -- failed or memory ran out.
@@ -94,7 +96,7 @@ pub record IngestsByRecords (opened : Opened) (name input : List ℕ) (outcome :
       → IsOneOf (Done ∷ SinkFault ∷ OutOfMemory ∷ ShelfFault ∷ TooManyChunks ∷ SourceFault ∷ []) outcome
       ⊎ IsDamage IsOfChunk outcome
 
--- What a run that reads its input does by the records, by command.
+-- What a run that takes an input in does by the records, by command. `bulk` makes its own.
 abbrev pub TakesByRecords : Result Command Refusal → Outcome → Opened → List ℕ → Type 0
 TakesByRecords (Err bad) outcome opened input = ⊤
 TakesByRecords (Ok (quiet (Plan raw workers segment))) outcome opened input = ⊤
@@ -104,3 +106,5 @@ TakesByRecords (Ok (quiet (Restore name))) outcome opened input = ⊤
 TakesByRecords (Ok (quiet (Drop name))) outcome opened input = ⊤
 TakesByRecords (Ok (quiet Refs)) outcome opened input = ⊤
 TakesByRecords (Ok (Ingest name how)) outcome opened input = IngestsByRecords opened name input outcome
+TakesByRecords (Ok (Bulk seed blocks how)) outcome opened input =
+    IngestsByRecords opened (bulk_name seed blocks) (bulk_input seed blocks) outcome

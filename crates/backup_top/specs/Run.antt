@@ -21,7 +21,7 @@ use Rattle.sd_base.specs.declared.file.File.TheVariants.{Book, Head, Seal}
 use Rattle.sd_base.specs.declared.limits.TheConstants.{MAX_INPUT, OPEN_HEAD_LEN}
 use Rattle.sd_base.specs.declared.words.BadWords.{BadWords as Refusal}
 use Rattle.sd_base.specs.declared.words.Command.{Command}
-use Rattle.sd_base.specs.declared.words.Command.TheVariants.{Quiet as quiet, Ingest}
+use Rattle.sd_base.specs.declared.words.Command.TheVariants.{Quiet as quiet, Ingest, Bulk}
 use Rattle.sd_base.specs.declared.words.Quiet.TheVariants.{Plan, Init, List as ListSessions, Restore, Drop, Refs}
 use Rattle.sd_base.specs.declared.outcome.Outcome.{Outcome}
 use Rattle.sd_base.specs.declared.outcome.Outcome.TheVariants.{Done, BadWords, BadParams, NoStore, StoreThere, NameTaken, NoSession, Damaged, InputTooLong, TooManySessions, TooManyPlaces, TooManyChunks, SourceFault, SinkFault, ShelfFault, OutOfMemory}
@@ -48,6 +48,7 @@ NeedsHeld (Ok (quiet (Restore name))) files state = AreHeld files state
 NeedsHeld (Ok (quiet (Drop name))) files state = AreHeld files state
 NeedsHeld (Ok (quiet Refs)) files state = AreHeld files state
 NeedsHeld (Ok (Ingest name how)) files state = AreHeld files state
+NeedsHeld (Ok (Bulk seed blocks how)) files state = AreHeld files state
 
 -- ---- what a run may return, and what it leaves, by its command
 
@@ -72,6 +73,10 @@ MayReturn (Ok (quiet Refs)) outcome =
 MayReturn (Ok (Ingest name how)) outcome =
     IsOneOf (Done ∷ SinkFault ∷ OutOfMemory ∷ NoStore ∷ ShelfFault ∷ NameTaken ∷ TooManySessions ∷ SourceFault
     ∷ InputTooLong ∷ TooManyPlaces ∷ TooManyChunks ∷ []) outcome
+    ⊎ IsDamage (λ flaw. IsOfOpening flaw ⊎ IsOfChunk flaw) outcome
+MayReturn (Ok (Bulk seed blocks how)) outcome =
+    IsOneOf (Done ∷ SinkFault ∷ OutOfMemory ∷ NoStore ∷ ShelfFault ∷ NameTaken ∷ TooManySessions ∷ TooManyPlaces
+    ∷ TooManyChunks ∷ []) outcome
     ⊎ IsDamage (λ flaw. IsOfOpening flaw ⊎ IsOfChunk flaw) outcome
 
 -- What a run that reads its input leaves of the source.
@@ -125,6 +130,8 @@ LeavesSource (Ok (quiet Refs)) outcome left files source_before source_after sin
     source_after ≡ source_before
 LeavesSource (Ok (Ingest name how)) outcome left files source_before source_after sink_before sink_after =
     IngestReads name outcome left files source_before source_after sink_before sink_after
+LeavesSource (Ok (Bulk seed blocks how)) outcome left files source_before source_after sink_before sink_after =
+    source_after ≡ source_before
 
 -- What a run leaves of the sink after a failed call on the store's files and a damage: it is as it
 -- was. Only a restore may have written, if opening finds no damage.
@@ -138,6 +145,7 @@ LeavesSink (Ok (quiet (Restore name))) outcome files before after =
 LeavesSink (Ok (quiet (Drop name))) outcome files before after = IsBrokenOff outcome → after ≡ before
 LeavesSink (Ok (quiet Refs)) outcome files before after = IsBrokenOff outcome → after ≡ before
 LeavesSink (Ok (Ingest name how)) outcome files before after = IsBrokenOff outcome → after ≡ before
+LeavesSink (Ok (Bulk seed blocks how)) outcome files before after = IsBrokenOff outcome → after ≡ before
 
 -- no file has changed, and the same files are loose
 pub record KeepsFiles {F : Type 0} (files_of : F → Option (File → List ℕ)) (loose : F → File → Bool)
@@ -190,6 +198,8 @@ LeavesShelf (Ok (quiet Refs)) outcome files_of loose before after =
     KeepsFiles files_of loose before after
 LeavesShelf (Ok (Ingest name how)) outcome files_of loose before after =
     IsBeforeReading outcome → KeepsFiles files_of loose before after
+LeavesShelf (Ok (Bulk seed blocks how)) outcome files_of loose before after =
+    IsBeforeReading outcome → KeepsFiles files_of loose before after
 
 -- What opening makes of a run, whatever the files hold. A damage is named only if opening finds it,
 -- or it is one that the command may find later.
@@ -215,6 +225,7 @@ GoesByVerdict (Ok (quiet (Restore name))) outcome files = IfSome files (OpensFir
 GoesByVerdict (Ok (quiet (Drop name))) outcome files = IfSome files (OpensFirst (λ flaw. ⊥) outcome)
 GoesByVerdict (Ok (quiet Refs)) outcome files = IfSome files (OpensFirst (λ flaw. ⊥) outcome)
 GoesByVerdict (Ok (Ingest name how)) outcome files = IfSome files (OpensFirst IsOfChunk outcome)
+GoesByVerdict (Ok (Bulk seed blocks how)) outcome files = IfSome files (OpensFirst IsOfChunk outcome)
 
 -- if the files before had the state and nothing else, those after have the next state and nothing else
 abbrev pub StayClean : Option (File → List ℕ) → Option (File → List ℕ) → Option State → Option State → Type 0

@@ -18,7 +18,7 @@ use Rattle.sd_base.specs.declared.limits.TheConstants.{MAX_INPUT}
 use Rattle.sd_base.specs.declared.params.BadParams.{BadParams as BadParameter}
 use Rattle.sd_base.specs.declared.words.BadWords.{BadWords as Refusal}
 use Rattle.sd_base.specs.declared.words.Command.{Command}
-use Rattle.sd_base.specs.declared.words.Command.TheVariants.{Quiet as quiet, Ingest}
+use Rattle.sd_base.specs.declared.words.Command.TheVariants.{Quiet as quiet, Ingest, Bulk}
 use Rattle.sd_base.specs.declared.words.Quiet.TheVariants.{Plan, Init, List as ListSessions, Restore, Drop, Refs}
 use Rattle.sd_base.specs.declared.outcome.Outcome.{Outcome}
 use Rattle.sd_base.specs.declared.outcome.Outcome.TheVariants.{Done, BadWords, BadParams, NoStore, StoreThere, NameTaken, NoSession, Damaged, InputTooLong, TooManySessions, TooManyPlaces, TooManyChunks, SourceFault, SinkFault, ShelfFault, OutOfMemory}
@@ -105,6 +105,7 @@ MakesByRecords (Ok (quiet (Drop name))) made opened = DropsByBook opened name ma
 MakesByRecords (Ok (quiet Refs)) made opened =
     IfOk made (λ text. string_bytes text ≡ refs_text (reference_rows_of_book opened.book)) × IfErr made IsBroken
 MakesByRecords (Ok (Ingest name how)) made opened = ⊤
+MakesByRecords (Ok (Bulk seed blocks how)) made opened = ⊤
 
 -- What making the text of a command does. `pass` is the definition's pass on each state.
 pub record MakesText {F : Type 0} (pass : Option State → Pass) (command : Result Command Refusal) (made : Made)

@@ -90,8 +90,8 @@ fn key_name(word: &str) -> &str
     word.split_once('=').map_or(word, |(name, _)| name)
 }
 
-// The value of a key that a text spells.
-fn parse_value(key: &Key, text: &str) -> Option<u64>
+/// The value of a key that a text spells.
+pub fn parse_value(key: &Key, text: &str) -> Option<u64>
     ensures value { result ≡ number_of (key_spec_of key.now) text.now }
     ensures in_range { IfSome result (λ value. value ≤ key.now.greatest) }
 {

@@ -4,6 +4,8 @@
 //! restores and drops sessions, and counts references. All rules here are this project's own.
 #![tactic(auto)]
 
+mod bulk;
+mod bulk_name;
 mod drop_text;
 mod dropping;
 mod in_memory;

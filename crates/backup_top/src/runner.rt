@@ -6,6 +6,7 @@ ghost use Rattle.sd_base.specs.declared.words.Command.TheVariants.{Quiet as quie
 ghost use Rattle.backup_top.specs.Run.{IsRun};
 ghost use Rattle.backup_top.specs.Words.{texts_of};
 
+use crate::bulk::bulk;
 use crate::dropping::drop_session;
 use crate::ingest::ingest;
 use crate::init::init;
@@ -68,6 +69,9 @@ fn run_command<H: Threads + Sync, R: Source, K: Sink, F: Shelf>(
         Command::Quiet(command) => run_quiet(rt, alloc, command, source, sink, shelf),
         Command::Ingest { name, how } => {
             write_made(sink, &ingest(rt, alloc, name, how, source, shelf))
+        }
+        Command::Bulk { seed, blocks, how } => {
+            write_made(sink, &bulk(rt, alloc, *seed, *blocks, how, shelf))
         }
     }
 }

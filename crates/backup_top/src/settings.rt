@@ -23,7 +23,7 @@ pub struct Settings {
     pub how: How,
 }
 
-/// The commands with keys.
+/// The commands with keys. `bulk` has those of `ingest`.
 #[derive(Clone, Copy)]
 pub enum KeySet {
     Plan,
@@ -31,11 +31,11 @@ pub enum KeySet {
     Ingest,
 }
 
-/// Reads words that set keys of a command, from the first of them at a place, 1 or 2. Each word
-/// before the one that fails sets a key of its own, so its place is at most 2 more than the number
+/// Reads words that set keys of a command, from the first of them at a place, 1 to 3. Each word
+/// before the one that fails sets a key of its own, so its place is at most 3 more than the number
 /// of keys.
 pub fn read_settings(words: &[String], keys: KeySet, place: u32) -> Result<Settings, BadWords>
-    requires { place ≤ 2 }
+    requires { place ≤ 3 }
     ensures bad { result_err result ≡ first_bad_word (keys_of keys) [] place (texts_of words.now) }
     ensures set { IfOk result (λ settings. settings ≡ settings_of (texts_of words.now)) }
 {

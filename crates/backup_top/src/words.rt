@@ -1,12 +1,14 @@
-ghost use Rattle.std.specs.Prelude.{◌≡◌, ℕ, List, [], ◌∷◌, IfOk, Some, None, is_some, if◌then◌else◌};
+ghost use Rattle.std.specs.Prelude.{◌≡◌, ◌≤◌, ℕ, List, [], ◌∷◌, IfOk, Some, None, is_some, if◌then◌else◌};
 ghost use Rattle.std.specs.Result.{result_err};
-ghost use Rattle.sd_base.specs.Keys.{first_bad_word};
+ghost use Rattle.sd_base.specs.Keys.{first_bad_word, number_of};
 ghost use Rattle.sd_base.specs.Names.{bad_name};
-ghost use Rattle.sd_base.specs.Words.{command_of, drop_of, ingest_of, init_of, list_of, plan_of, refs_of, restore_of, session_command_of};
+ghost use Rattle.sd_base.specs.Words.{bulk_of, bulk_of_seed, command_of, drop_of, ingest_of, init_of, list_of, plan_of, refs_of, restore_of, session_command_of};
+ghost use Rattle.backup_top.specs.Keys.{key_spec_of};
 ghost use Rattle.backup_top.specs.Words.{command_with, texts_of};
 
+use crate::keys::{Key, Spelling, parse_value};
 use crate::settings::{KeySet, read_settings};
-use sd_base::{BadKind, BadWords, Command, Name, Quiet};
+use sd_base::{BadKind, BadWords, Command, MAX_BLOCKS, Name, Quiet};
 
 /// Reads the words of the command line, without the path of the store: returns the command that
 /// they name, or the first word that fails. It takes no memory.
@@ -30,6 +32,7 @@ fn read_command(command: &str, words: &[String]) -> Result<Command, BadWords>
         "plan" => read_plan(words),
         "init" => read_init(words),
         "ingest" => read_ingest(words),
+        "bulk" => read_bulk(words),
         "list" => read_list(words),
         "restore" => read_restore(words),
         "drop" => read_drop(words),
@@ -76,6 +79,56 @@ fn read_ingest(words: &[String]) -> Result<Command, BadWords>
             Ok(Command::Ingest { name, how: set.how })
         }
     }
+}
+
+// Reads the words after `bulk`.
+fn read_bulk(words: &[String]) -> Result<Command, BadWords>
+    ensures { result ≡ bulk_of (texts_of words.now) }
+{
+    match words {
+        [] => Err(BadWords {
+            kind: BadKind::Missing,
+            place: 1,
+        }),
+        [seed, words @ ..] => {
+            let seed = read_number(&SEED, seed.as_str(), 1)?;
+            read_blocks(seed, words)
+        }
+    }
+}
+
+// Reads the words after the seed of `bulk`.
+fn read_blocks(seed: u64, words: &[String]) -> Result<Command, BadWords>
+    ensures { result ≡ bulk_of_seed (Some seed) (texts_of words.now) }
+{
+    match words {
+        [] => Err(BadWords {
+            kind: BadKind::Missing,
+            place: 2,
+        }),
+        [blocks, words @ ..] => {
+            let blocks = read_number(&BLOCKS, blocks.as_str(), 2)?;
+            let set = read_settings(words, KeySet::Ingest, 3)?;
+            Ok(Command::Bulk {
+                seed,
+                blocks: blocks as u32,
+                how: set.how,
+            })
+        }
+    }
+}
+
+// Reads a word that is a number, at a place.
+fn read_number(number: &Key, word: &str, place: u32) -> Result<u64, BadWords>
+    ensures refused { result_err result ≡ (if is_some (number_of (key_spec_of number.now) word.now) then None
+        else Some (record { kind = BadKind.Number; place = place })) }
+    ensures value { IfOk result (λ value. number_of (key_spec_of number.now) word.now ≡ Some value) }
+    ensures in_range { IfOk result (λ value. value ≤ number.now.greatest) }
+{
+    parse_value(number, word).ok_or(BadWords {
+        kind: BadKind::Number,
+        place,
+    })
 }
 
 // Reads the words after `list`.
@@ -152,3 +205,18 @@ fn refuse_keys(words: &[String], place: u32) -> Result<(), BadWords>
         }),
     }
 }
+
+// The numbers of `bulk`.
+const SEED: Key = Key {
+    name: "SEED",
+    spelling: Spelling::Decimal,
+    least: 0,
+    greatest: u64::MAX,
+};
+
+const BLOCKS: Key = Key {
+    name: "BLOCKS",
+    spelling: Spelling::Decimal,
+    least: 1,
+    greatest: MAX_BLOCKS as u64,
+};
