@@ -187,14 +187,14 @@ def permissions_test(function):
 
 # Which commands have failed if a file has this mode. Sizes alone need no permission on a file.
 MODES = [
-    ("head", 0, ["list", "restore", "refs", "ingest", "drop"]),
-    ("book.0", 0, ["list", "restore", "refs", "ingest", "drop"]),
-    ("container.0.0", 0, ["restore", "ingest"]),
-    ("seal.0", 0, ["ingest", "drop"]),
+    ("head", 0, ["list", "restore", "refs", "ingest", "drop", "bulk"]),
+    ("book.0", 0, ["list", "restore", "refs", "ingest", "drop", "bulk"]),
+    ("container.0.0", 0, ["restore", "ingest", "bulk"]),
+    ("seal.0", 0, ["ingest", "drop", "bulk"]),
     ("head", 0o400, []),
-    ("book.0", 0o400, ["ingest", "drop"]),
-    ("container.0.0", 0o400, ["ingest"]),
-    ("seal.0", 0o400, ["ingest", "drop"]),
+    ("book.0", 0o400, ["ingest", "drop", "bulk"]),
+    ("container.0.0", 0o400, ["ingest", "bulk"]),
+    ("seal.0", 0o400, ["ingest", "drop", "bulk"]),
 ]
 
 

@@ -1,10 +1,12 @@
 """Runs the program on a store in a folder, beside the second implementation on files in memory."""
 
 from dataclasses import replace
+from functools import lru_cache
 
 import reference_store
 from harness import Mismatch, Run, expect, run, status_of
 from reference import DEFAULTS, SPARSE_ZERO, keys_of
+from reference_bulk import bulk_input
 from reference_store import (
     MAX_CHUNK,
     Refusal,
@@ -23,9 +25,9 @@ FOLDER = "s"
 LONG = replace(DEFAULTS, min=MAX_CHUNK, max=MAX_CHUNK)
 
 # What the commands print over the store `twice`, if `ingest` has this input. It has a chunk of the
-# store and a new one.
+# store and a new one. `bulk` makes its own.
 INIT = ["init", *keys_of(SPARSE_ZERO)]
-COMMANDS = [["list"], ["restore", "a"], ["refs"], ["ingest", "n"], ["drop", "a"]]
+COMMANDS = [["list"], ["restore", "a"], ["refs"], ["ingest", "n"], ["drop", "a"], ["bulk", "7", "1"]]
 TEXT = bytes(64) + b"abc" * 50
 LISTED = b"0 a 200 4\n1 b 200 4\n"
 INGESTED = b"ingested n 214 bytes 2 places 1 new\n"
@@ -36,6 +38,7 @@ OUTPUTS = {
     "refs": references_of_twice(6, 2),
     "ingest": INGESTED,
     "drop": b"dropped a 4 places\n",
+    "bulk": b"ingested bulk.7.1 65536 bytes 259 places 259 new\n",
 }
 
 
@@ -83,11 +86,22 @@ def with_drop(files, name=b"a"):
     return later
 
 
+@lru_cache(maxsize=1)
+def files_of_bulk():
+    """The files of `twice` after one more block, as pairs. Its windows take long to divide."""
+    return tuple(with_ingest(twice(), b"bulk.7.1", bulk_input(7, 1)).items())
+
+
+def with_bulk(files):
+    """The files of `twice` after one more block."""
+    return files | dict(files_of_bulk())
+
+
 def files_after(command):
     """The files after a command over `twice`, or over none if it is `init`."""
     if command == "init":
         return {"head": twice()["head"]}
-    changing = {"ingest": with_ingest, "drop": with_drop}
+    changing = {"ingest": with_ingest, "drop": with_drop, "bulk": with_bulk}
     return changing.get(command, dict)(twice())
 
 
@@ -113,7 +127,7 @@ class Twin:
 
     def expect(self, words, wanted, source=b""):
         """Expects this run, and these files after it. A run that reads or is refused leaves all."""
-        writes = wanted.status == 0 and words[0] in ("init", "ingest", "drop")
+        writes = wanted.status == 0 and words[0] in ("init", "ingest", "bulk", "drop")
         came = run([FOLDER, *words], source, changes=FOLDER if writes else None)
         expect(came, *wanted)
         expect_files(self.files, files_in(FOLDER))
@@ -125,6 +139,12 @@ class Twin:
     def ingest(self, name, text):
         wanted = wanted_run(ingest, self.files, name.encode(), text)
         self.expect(["ingest", name], wanted, text)
+        return wanted
+
+    def bulk(self, seed, blocks):
+        name = f"bulk.{seed}.{blocks}"
+        wanted = wanted_run(ingest, self.files, name.encode(), bulk_input(seed, blocks))
+        self.expect(["bulk", f"{seed}", f"{blocks}"], wanted, b"abc")
         return wanted
 
     def drop(self, name):

@@ -62,7 +62,7 @@ def bad_parameters_are_refused_by_the_first_kind():
 ALL_KEYS = ["polynomial=10001", "bits=9", "target=5", "min=48", "max=300"]
 
 MISSING, COMMAND, KEY, VALUE = "0: missing", "0: command", "1: key", "1: value"
-NO_NAME, NAME = "1: missing", "1: name"
+NO_NAME, NAME, NUMBER = "1: missing", "1: name", "1: number"
 WRONG_WORDS = [
     ([], MISSING),
     ([""], MISSING),
@@ -96,8 +96,7 @@ WRONG_WORDS = [
     (["init"], MISSING),
     (["list"], MISSING),
     (["ingest", "a"], COMMAND),
-    # These commands are not built.
-    (["store", "bulk", "7", "1"], COMMAND),
+    # This command is not built.
     (["store", "audit"], COMMAND),
     (["store", "Drop", "a"], COMMAND),
     (["store", "drops", "a"], COMMAND),
@@ -147,9 +146,28 @@ WRONG_WORDS = [
     (["store", "ingest", "a", "segment=268435457"], "2: value"),
     (["store", "ingest", "a", "workers=4", "segment=1", "workers=0"], "4: twice"),
     (["store", "ingest", "a", "workers=4", "min=64"], "3: key"),
-    # Two keys of an ingest are not built.
+    # Two keys of an ingest and of `bulk` are not built.
     (["store", "ingest", "a", "batch=65536"], "2: key"),
     (["store", "ingest", "a", "shards=1"], "2: key"),
+    (["store", "bulk"], NO_NAME),
+    (["store", "bulk", "7"], "2: missing"),
+    (["store", "bulk", "07"], NUMBER),
+    (["store", "bulk", "07", "1"], NUMBER),
+    (["store", "bulk", "x", "1"], NUMBER),
+    (["store", "bulk", "18446744073709551616", "1"], NUMBER),
+    (["store", "bulk", "100000000000000000000", "1"], NUMBER),
+    (["store", "bulk", "7", "0"], "2: number"),
+    (["store", "bulk", "7", "4097"], "2: number"),
+    (["store", "bulk", "7", "workers=2"], "2: number"),
+    (["store", "bulk", "workers=2", "7", "1"], NUMBER),
+    (["store", "bulk", "7", "1", "2"], "3: key"),
+    (["store", "bulk", "7", "1", "bits=9"], "3: key"),
+    (["store", "bulk", "7", "1", "workers=65"], "3: value"),
+    (["store", "bulk", "7", "1", "workers=2", "workers=2"], "4: twice"),
+    (["store", "bulk", "7", "1", "batch=65536"], "3: key"),
+    (["store", "bulk", "7", "1", "shards=1"], "3: key"),
+    (["store", "Bulk", "7", "1"], COMMAND),
+    (["bulk", "7", "1"], COMMAND),
     # The name is looked at before the words after it.
     (["store", "ingest", ".a", "b"], NAME),
     (["store", "restore", "--name", "a"], NAME),

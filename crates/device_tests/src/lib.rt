@@ -9,6 +9,8 @@ mod faulty_files;
 #[cfg(test)]
 mod folder;
 #[cfg(test)]
+mod generated;
+#[cfg(test)]
 mod packer_steps;
 #[cfg(test)]
 mod shelf_steps;

@@ -3,6 +3,8 @@
 #![tactic(auto)]
 
 #[cfg(test)]
+mod bulks;
+#[cfg(test)]
 mod changes;
 #[cfg(test)]
 mod drops;
