@@ -27,7 +27,8 @@ LONG = replace(DEFAULTS, min=MAX_CHUNK, max=MAX_CHUNK)
 # What the commands print over the store `twice`, if `ingest` has this input. It has a chunk of the
 # store and a new one. `bulk` makes its own.
 INIT = ["init", *keys_of(SPARSE_ZERO)]
-COMMANDS = [["list"], ["restore", "a"], ["refs"], ["ingest", "n"], ["drop", "a"], ["bulk", "7", "1"]]
+READING = [["list"], ["restore", "a"], ["refs"]]
+COMMANDS = [*READING, ["ingest", "n"], ["drop", "a"], ["bulk", "7", "1"]]
 TEXT = bytes(64) + b"abc" * 50
 LISTED = b"0 a 200 4\n1 b 200 4\n"
 INGESTED = b"ingested n 214 bytes 2 places 1 new\n"

@@ -13,6 +13,7 @@ from manual_checks import (
     expect_kinds,
     expect_limit,
     expect_names,
+    expect_numbers,
     expect_page_examples,
     expect_prints,
     expect_range,
@@ -39,6 +40,7 @@ def commands_of_the_manual_page_are_those_of_the_program():
     expect_commands(PAGE)
     expect_words(PAGE)
     expect_names(PAGE)
+    expect_numbers(PAGE)
 
 
 @test
@@ -138,8 +140,16 @@ WRONG_WORDS = [
     (".It Li segment", ".It Li segments"),
 ]
 WRONG_NAMES = [("1 to 64 bytes", it) for it in ("0 to 64 bytes", "1 to 63 bytes", "1 to 65 bytes")]
+WRONG_NUMBERS = [
+    ("from 0 to 18446744073709551615", "from 1 to 18446744073709551615"),
+    ("from 0 to 18446744073709551615", "from 0 to 18446744073709551614"),
+    ("from 1 to 4096", "from 0 to 4096"),
+    ("from 1 to 4096", "from 1 to 4095"),
+]
+# `bulk` prints a line as this one.
+SESSION = "one chunk of the session:\n.Dl Li ingested "
 WRONG_LINES = [
-    ("Ar name bytes Li bytes Ar places", "Ar name places Li bytes Ar bytes"),
+    (f"{SESSION}Ar name bytes Li bytes Ar places", f"{SESSION}Ar name places Li bytes Ar bytes"),
     ("Ar number name bytes places", "Ar number name places bytes"),
     ("Ar chunk count length name", "Ar chunk length name"),
     (".Dl Li ready\n", ".Dl Li done\n"),
@@ -154,6 +164,7 @@ def manual_pages_with_wrong_commands_are_noticed():
     expect_noticed(expect_commands, WRONG_COMMANDS)
     expect_noticed(expect_words, WRONG_WORDS)
     expect_noticed(expect_names, WRONG_NAMES)
+    expect_noticed(expect_numbers, WRONG_NUMBERS)
     expect_noticed(expect_prints, WRONG_LINES)
 
 
@@ -221,6 +232,7 @@ WRONG_STATUSES = [
 WRONG_KINDS = [
     (".It Li twice\n", ""),
     (".It Li twice\n", ".It Li double\n"),
+    (".It Li number\n", ""),
     (".It Li twice\n", ".It Li number\n.It Li twice\n"),
     (".It Li damaged head\n", ""),
     ("recipe Ar session place", "recipe Ar place"),

@@ -50,7 +50,7 @@ MANUAL = ROOT / "docs/backup.1"
 
 ABSENT = "absent"
 # What stands for a word of a command, by the name that the page gives it.
-WORDS = {"name": "a"}
+WORDS = {"name": "a", "seed": "7", "blocks": "4"}
 
 
 def rest_of(page, title):
@@ -93,7 +93,7 @@ def candidates(page):
     """Words that may be commands: those of the page, and each word in the code between quotes."""
     code = (it.read_text() for it in ROOT.glob("crates/*/src/*.rt"))
     found = {*chain.from_iterable(re.findall(r'"([a-z]+)"', it) for it in code)}
-    return sorted({*found, *commands_in(page), "audit", "bulk", "check", "help", "prune"})
+    return sorted({*found, *commands_in(page), "audit", "check", "help", "prune"})
 
 
 def is_command(word):
@@ -131,6 +131,21 @@ def expect_words(page):
             expect_bad_word(given, len(words) + (key in keys), "key")
 
 
+def expect_numbers(page):
+    text = rest_of(page, "DESCRIPTION")
+    seeds, blocks = r"a decimal number from (\d+) to (\d+)", r"one from (\d+) to (\d+)"
+    found = re.search(f"seed is {seeds}, and blocks {blocks},", text)
+    if found is None:
+        raise Mismatch("wanted which numbers bulk takes, came none")
+    least_seed, most_seed, least, most = map(int, found.groups())
+    for words in (["bulk", f"{least_seed}", f"{least}"], ["bulk", f"{most_seed}", f"{most}"]):
+        expect_refusal(run([ABSENT, *words]), "no store")
+    for number in (least_seed - 1, most_seed + 1):
+        expect_bad_word(["bulk", f"{number}", f"{least}"], 1, "number")
+    for number in (least - 1, most + 1):
+        expect_bad_word(["bulk", "7", f"{number}"], 2, "number")
+
+
 def expect_names(page):
     found = re.search(r"has (\d+) to (\d+) bytes: ASCII letters", rest_of(page, "DESCRIPTION"))
     if found is None:
@@ -147,6 +162,7 @@ def expect_names(page):
 PRINTED = {
     "init": {},
     "ingest": {"name": "n", "bytes": "214", "places": "2", "new": "1"},
+    "bulk": {"name": "bulk.7.4", "bytes": "262144", "places": "1033", "new": "862"},
     "list": {"number": "1", "name": "b", "bytes": "200", "places": "4"},
     "restore": {},
     "drop": {"name": "a", "places": "4"},
@@ -158,7 +174,8 @@ PRINTED = {
 def last_line_of(name):
     """The last line of a command, and how many bytes of its input it reads."""
     write_files(FOLDER, {} if name == "init" else twice())
-    words = [name, *{"ingest": ["n"], "restore": ["a"], "drop": ["a"]}.get(name, [])]
+    given = {"ingest": ["n"], "bulk": ["7", "4"], "restore": ["a"], "drop": ["a"]}
+    words = [name, *given.get(name, [])]
     with file_of(TEXT) as source:
         came = run([FOLDER, *words], source, changes=FOLDER)
         expect_same(f"the status of {name}", 0, came.status)
@@ -341,7 +358,7 @@ def expect_limit(what, page):
 
 def bad_word_runs():
     values = [["plan", "min=48", "min=48"], ["plan", "min=x"]]
-    words = [[], ["x"], ["drop", ".a"], ["list", "a"], *values]
+    words = [[], ["x"], ["drop", ".a"], ["bulk", "07"], ["list", "a"], *values]
     return [run([FOLDER, *it]) for it in words]
 
 
