@@ -16,8 +16,9 @@ use Rattle.sd_base.specs.declared.words.Command.TheVariants.{Bulk, Ingest}
 use Rattle.sd_base.proofs.Generator.{bulk_input-fits}
 use Rattle.backup_top.specs.Run.{IsRun, MayReturn}
 use Rattle.backup_top.specs.Steps.{Made, MakesText, MayEnd, TakesByBook, WritesMade}
+use Rattle.ingest_core.proofs.Inputs.{some_input}
 use Rattle.backup_top.proofs.Ingests.{by_records-told}
-use Rattle.backup_top.proofs.Runs.{carried_out, err-of, of_write, some_input, uncalled}
+use Rattle.backup_top.proofs.Runs.{carried_out, err-of, of_write, uncalled}
 use Rattle.backup_top.proofs.Unread.{bulk_unread}
 
 module _ (seed blocks : ℕ) (how : How) where
