@@ -79,11 +79,11 @@ class Bench:
         self.measure(name, [PROGRAM, self.room / "s", *words], **streams)
 
 
-def make_store(room):
+def make_store(room, *keys):
     store = room / "s"
     shutil.rmtree(store, ignore_errors=True)
     store.mkdir()
-    run([PROGRAM, store, "init"], stdout=DEVNULL, check=True)
+    run([PROGRAM, store, "init", *keys], stdout=DEVNULL, check=True)
 
 
 def measure_round(bench, path):

@@ -26,7 +26,7 @@ SUBJECTS = {
     "calls": 13,
     "disturbances": 6,
     "documents": 7,
-    "manual": 18,
+    "manual": 20,
     "recipes": 13,
     "demo": 2,
 }

@@ -7,14 +7,17 @@ from manual_checks import (
     MANUAL,
     all_runs,
     expect_commands,
+    expect_decimals,
     expect_defaults,
     expect_documents,
     expect_files,
+    expect_keys,
     expect_kinds,
     expect_limit,
     expect_names,
     expect_numbers,
     expect_page_examples,
+    expect_polynomials,
     expect_prints,
     expect_range,
     expect_ranges,
@@ -49,8 +52,15 @@ def commands_of_the_manual_page_read_and_print_what_it_says():
 
 
 @test
+def keys_of_the_manual_page_are_those_of_the_program():
+    expect_keys(PAGE)
+
+
+@test
 def ranges_of_the_manual_page_are_those_of_the_program():
     expect_ranges(PAGE)
+    expect_polynomials(PAGE)
+    expect_decimals(PAGE)
     expect_rules(PAGE)
 
 
@@ -190,6 +200,24 @@ WRONG_RANGES = {
     "workers": ["0 64 4", "2 64 4", "1 63 4", "1 65 4", "1 64 65"],
     "segment": ["0 268435456 65536", "1 268435455 65536", "1 268435457 65536"],
 }
+WRONG_POLYNOMIALS = [
+    ("at most 16 digits", "at most 15 digits"),
+    ("at most 16 digits", "at most 17 digits"),
+    ("bit at 16 to", "bit at 15 to"),
+    ("bit at 16 to", "bit at 17 to"),
+    ("to 63, and", "to 62, and"),
+    ("to 63, and", "to 64, and"),
+]
+WRONG_DECIMALS = [
+    ("to the power 32", "to the power 31"),
+    ("to the power 32", "to the power 33"),
+    ("last 48 bytes", "last 64 bytes"),
+]
+WRONG_RULES = [
+    ("its lowest bit is 1", "its lowest bit is 0"),
+    ("is below 2 to the power\n", "is at most 2 to the power\n"),
+    ("is at least\n", "is above\n"),
+]
 WRONG_DEFAULTS = [
     *cells("polynomial", f"10001 ffffffffffffffff {LOWER}"),
     *cells("bits", "1 16 12", "1 16 14"),
@@ -203,10 +231,27 @@ WRONG_SHARES = [
 ]
 
 
+def without_row(key):
+    row = keys_in(PAGE)[key]
+    cells = [key, row.least, row.most, row.default, f"Cm {' '.join(row.commands)}"]
+    return (f".It Li {' Ta '.join(cells)}\n", "")
+
+
+WRONG_KEYS = [*map(without_row, ("polynomial", "max")), (".It Li bits Ta", ".It Li bit Ta")]
+
+
+@test
+def manual_pages_with_wrong_keys_are_noticed():
+    expect_noticed(expect_keys, WRONG_KEYS)
+
+
 @test
 def manual_pages_with_wrong_ranges_and_defaults_are_noticed():
     for key, rows in WRONG_RANGES.items():
         expect_noticed(partial(expect_range, key), cells(key, *rows))
+    expect_noticed(expect_polynomials, WRONG_POLYNOMIALS)
+    expect_noticed(expect_decimals, WRONG_DECIMALS)
+    expect_noticed(expect_rules, WRONG_RULES)
     expect_noticed(expect_defaults, WRONG_DEFAULTS)
 
 

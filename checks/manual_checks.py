@@ -222,6 +222,20 @@ def run_with_key(page, command, key, number):
     return run(words), len(words) - 2
 
 
+def is_key(words, word):
+    """Whether a command takes a word as a key. A value that is empty is refused in any case."""
+    came = run([ABSENT, *words, f"{word}="])
+    return came.notes == f"backup: bad words at {len(words)}: value\n".encode()
+
+
+def expect_keys(page):
+    words = sorted({*candidates(page), *keys_in(page), "batch", "shards", "seed"})
+    for name in (name for name, it in commands_in(page).items() if it.has_keys):
+        wanted = [it for it in words if is_key(words_of(page, name), it)]
+        shown = [key for key, it in keys_in(page).items() if name in it.commands]
+        expect_same(f"the keys of {name}", wanted, sorted(shown))
+
+
 def expect_taken(page, command, key, number):
     """Expects that no word is refused. The store is absent, so nothing else comes of it."""
     came, _ = run_with_key(page, command, key, number)
@@ -252,6 +266,39 @@ def expect_range(key, page):
 def expect_ranges(page):
     for key in keys_in(page):
         expect_range(key, page)
+
+
+def number_after(words, page, title):
+    if (found := re.search(rf"{words} (\d+)\b", rest_of(page, title))) is None:
+        raise Mismatch(f"wanted a number after {words!r}, came none")
+    return int(found.group(1))
+
+
+def expect_polynomials(page):
+    """Expects what the page says of the digits of a polynomial and of its highest bit."""
+    plan, key = [ABSENT, "plan"], "polynomial"
+    digits = number_after("no prefix and at most", page, "Keys")
+    longest = "10001".rjust(digits, "0")
+    lowest = number_after("its highest set bit at", page, "Keys")
+    highest = number_after(f"its highest set bit at {lowest} to", page, "Keys")
+    for value in (longest, f"{2**lowest + 1:x}", f"{2**highest + 1:x}"):
+        expect(run([*plan, f"{key}={value}"]))
+    for value in (f"0{longest}", f"{2 ** (highest + 1) + 1:x}"):
+        expect_refusal(run([*plan, f"{key}={value}"]), "bad words at 1: value")
+    below = f"{2 ** (lowest - 1) + 1:x}"
+    expect_refusal(run([*plan, f"{key}={below}"]), f"bad parameter: {key}")
+
+
+def expect_decimals(page):
+    """Expects what the page says of the digits of the other values, and of the window."""
+    plan = [ABSENT, "plan"]
+    power = number_after("no leading zeros and below 2 to the power", page, "Keys")
+    expect_refusal(run([*plan, f"max={2**power - 1}"]), "bad parameter: max")
+    for value in (f"{2**power}", "02048"):
+        expect_refusal(run([*plan, f"max={value}"]), "bad words at 1: value")
+    # The least minimum is the length of the window.
+    window = number_after("Rabin fingerprint of the last", page, "Keys")
+    expect_same("the window", keys_in(page)["min"].least, str(window))
 
 
 def expect_rules(page):
