@@ -117,13 +117,6 @@ pub edge-failed : {S T : Type 0} (fault : EdgeFault) (r : Result T StoreFault) �
 edge-failed edge.Failed r same is = refl
 edge-failed edge.OutOfMemory r same is = let clash = sym (passed-is store.OutOfMemory r same) ∙ is in absurd cc
 
--- the faults of a shelf are those of a commit
-pub edge-fails : {T : Type 0} (fault : EdgeFault) (r : Result T StoreFault) → IsErrAnd r (λ e. e ≡ store_fault_of fault) →
-    OnErr r (OnlyFails r)
-edge-fails fault (Ok x) same = absurd same
-edge-fails {T = T} edge.Failed (Err e) same = inl (ap (λ f. let r : Result T StoreFault = Err f in r) same)
-edge-fails {T = T} edge.OutOfMemory (Err e) same = inr (ap (λ f. let r : Result T StoreFault = Err f in r) same)
-
 -- that of a call that ran out of memory
 pub memory-is : {T : Type 0} (r : Result T StoreFault) (fault : StoreFault) → IsErrAnd r (λ e. e ≡ store.OutOfMemory) →
     r ≡ Err fault → fault ≡ store.OutOfMemory

@@ -13,7 +13,7 @@ use Rattle.store_core.specs.Recipes.{IsInOrder}
 use Rattle.store_core.specs.StoreStates.{StoreState, chunks_of_store}
 use Rattle.store_core.proofs.CommitLemmas.{room-in}
 use Rattle.store_core.proofs.CountLemmas.{committed-counted, counted-room, reserved-counted, reserved-known}
-use Rattle.store_core.proofs.Passing.{counts-as, counts-none, edge-failed, edge-fails, memory-fails, memory-unfailed, none-ok}
+use Rattle.store_core.proofs.Passing.{counts-as, counts-none, edge-failed, memory-fails, memory-unfailed, none-ok}
 use Rattle.store_core.proofs.SessionLemmas.{nothing-committed, placed-committed, session-follows, session-within, committed-unflushed, offered-flushed}
 use Rattle.store_core.proofs.store.Store.commit_session.Goals as goal
 
@@ -135,21 +135,10 @@ returns-clause-flushed g c =
     (subst (λ (s : StoreState). AreFlushed s.opened.head.generation (IsUnflushed inside.packer) loose)
     c.self.view_is c.in_ok-commit_bytes.ensures.flushed)
 
-pub returns-in_err-commit_bytes : goal.returns-in_err-commit_bytes
-returns-in_err-commit_bytes g c = record {
-  number = none-ok _ c.from_residual-in_err-commit_bytes.result c.from_residual-in_err-commit_bytes.ensures.0;
-  committed = none-ok _ c.from_residual-in_err-commit_bytes.result c.from_residual-in_err-commit_bytes.ensures.0;
-  written = none-ok _ c.from_residual-in_err-commit_bytes.result c.from_residual-in_err-commit_bytes.ensures.0;
-  flushed = none-ok _ c.from_residual-in_err-commit_bytes.result c.from_residual-in_err-commit_bytes.ensures.0;
-  sealed = none-ok _ c.from_residual-in_err-commit_bytes.result c.from_residual-in_err-commit_bytes.ensures.0;
-  lawful = none-ok _ c.from_residual-in_err-commit_bytes.result c.from_residual-in_err-commit_bytes.ensures.0;
-  refused = edge-fails c.in_err-commit_bytes.field-0.0 c.from_residual-in_err-commit_bytes.result c.from_residual-in_err-commit_bytes.ensures.1;
-  not_written = search rules;
-  head = search rules;
-  limit = search rules;
-  counts = counts-as (edge-failed c.in_err-commit_bytes.field-0.0 c.from_residual-in_err-commit_bytes.result c.from_residual-in_err-commit_bytes.ensures.1)
-      c.in_err-commit_bytes.ensures.counts;
-}
+pub returns-in_err-commit_bytes-clause-counts : goal.returns-in_err-commit_bytes-clause-counts
+returns-in_err-commit_bytes-clause-counts g c = counts-as
+    (edge-failed c.in_err-commit_bytes.field-0.0 c.from_residual-in_err-commit_bytes.result c.from_residual-in_err-commit_bytes.ensures.1)
+    c.in_err-commit_bytes.ensures.counts
 
 pub returns-clause-counts : goal.returns-clause-counts
 returns-clause-counts g c = counts-as (λ is. absurd cc) c.commit_bytes.ensures.counts

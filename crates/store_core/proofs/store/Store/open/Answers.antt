@@ -7,28 +7,28 @@ use Rattle.store_core.specs.Containers.{IsFirstShort}
 use Rattle.store_core.specs.Heads.{head_state}
 use Rattle.store_core.specs.StoreStates.{StoreState}
 use Rattle.store_core.proofs.FieldLemmas.{replayed-bounded, replayed-some}
-use Rattle.store_core.proofs.Passing.{fault-passed, memory-unfailed, none-ok, reads-as, reads-then}
+use Rattle.store_core.proofs.Passing.{fault-passed, memory-unfailed, reads-as, reads-then}
 use Rattle.store_core.proofs.StoreLemmas.{committed-damage, container-damage, damaged-passed, head-damage, open-stands, opened-as, same-told, HasBook, HasDamage, HasSizes, Told}
 use Rattle.store_core.proofs.store.Store.open.Given as given
 use Rattle.store_core.proofs.store.Store.open.Goals as goal
 
 pub returns-in_err-head : goal.returns-in_err-head
 returns-in_err-head g c = record {
-  opened = none-ok _ c.from_residual.result c.from_residual.ensures.0;
+  opened = search rules;
   no_store = search rules;
   damaged = λ damage is.
       head-damage (g.F.Shelf.files c.args.shelf.now) damage
       (c.in_err-head.ensures.damaged damage (damaged-passed c.in_err-head.field-0.0 c.from_residual.result damage is c.from_residual.ensures.1));
   refused = search rules;
   kind = search rules;
-  fresh = none-ok _ c.from_residual.result c.from_residual.ensures.0;
+  fresh = search rules;
   stands = search rules;
   reads = reads-as (fault-passed c.in_err-head.field-0.0 c.from_residual.result c.from_residual.ensures.1) c.in_err-head.ensures.reads;
 }
 
 pub returns-in_err-book : goal.returns-in_err-book
 returns-in_err-book g c = record {
-  opened = none-ok _ c.from_residual-in_err-book.result c.from_residual-in_err-book.ensures.0;
+  opened = search rules;
   no_store = search rules;
   damaged = λ damage is.
       let told = g.F.Shelf.files c.args.shelf.now in
@@ -38,7 +38,7 @@ returns-in_err-book g c = record {
       (subst (λ (files : Told). IfSome files (HasDamage (head_state c.in_ok-head.head) damage)) same found);
   refused = search rules;
   kind = search rules;
-  fresh = none-ok _ c.from_residual-in_err-book.result c.from_residual-in_err-book.ensures.0;
+  fresh = search rules;
   stands = search rules;
   reads = reads-then c.in_ok-head.ensures.reads
       (reads-as (fault-passed c.in_err-book.field-0.0 c.from_residual-in_err-book.result c.from_residual-in_err-book.ensures.1) c.in_err-book.ensures.reads);
@@ -46,7 +46,7 @@ returns-in_err-book g c = record {
 
 pub returns-in_err-check_containers : goal.returns-in_err-check_containers
 returns-in_err-check_containers g c = record {
-  opened = none-ok _ c.from_residual-in_err-check_containers.result c.from_residual-in_err-check_containers.ensures.0;
+  opened = search rules;
   no_store = search rules;
   damaged = λ damage is.
       let found = c.in_err-check_containers.ensures.damaged damage (damaged-passed c.in_err-check_containers.field-0.0 c.from_residual-in_err-check_containers.result damage is c.from_residual-in_err-check_containers.ensures.1) in
@@ -61,7 +61,7 @@ returns-in_err-check_containers g c = record {
       (subst (λ (ns : List ℕ). IfSome (g.F.Shelf.files c.read_book.new.shelf) (λ f. IsFirstShort f c.in_ok-head.head.generation ns damage)) sizes found));
   refused = search rules;
   kind = search rules;
-  fresh = none-ok _ c.from_residual-in_err-check_containers.result c.from_residual-in_err-check_containers.ensures.0;
+  fresh = search rules;
   stands = search rules;
   reads = reads-then (reads-then c.in_ok-head.ensures.reads c.in_ok-book.ensures.reads)
       (reads-as (fault-passed c.in_err-check_containers.field-0.0 c.from_residual-in_err-check_containers.result c.from_residual-in_err-check_containers.ensures.1) c.in_err-check_containers.ensures.reads);
@@ -116,24 +116,24 @@ returns g c = record {
 
 pub returns-in_err-lengths : goal.returns-in_err-lengths
 returns-in_err-lengths g c = record {
-  opened = none-ok _ c.from_residual-in_err-lengths.result c.from_residual-in_err-lengths.ensures.0;
+  opened = search rules;
   no_store = search rules;
   damaged = search rules;
   refused = search rules;
   kind = search rules;
-  fresh = none-ok _ c.from_residual-in_err-lengths.result c.from_residual-in_err-lengths.ensures.0;
+  fresh = search rules;
   stands = search rules;
   reads = reads-as (λ is. absurd (memory-unfailed c.from_residual-in_err-lengths.result c.from_residual-in_err-lengths.ensures.1 is)) (reads-then c.in_ok-head.ensures.reads c.in_ok-book.ensures.reads);
 }
 
 pub returns-in_err-opened_store : goal.returns-in_err-opened_store
 returns-in_err-opened_store g c = record {
-  opened = none-ok _ c.from_residual-in_err-opened_store.result c.from_residual-in_err-opened_store.ensures.0;
+  opened = search rules;
   no_store = search rules;
   damaged = search rules;
   refused = search rules;
   kind = search rules;
-  fresh = none-ok _ c.from_residual-in_err-opened_store.result c.from_residual-in_err-opened_store.ensures.0;
+  fresh = search rules;
   stands = search rules;
   reads = reads-as (λ is. absurd (memory-unfailed c.from_residual-in_err-opened_store.result c.from_residual-in_err-opened_store.ensures.1 is)) (reads-then (reads-then c.in_ok-head.ensures.reads c.in_ok-book.ensures.reads) c.in_ok-check_containers.ensures.reads);
 }
