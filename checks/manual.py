@@ -199,6 +199,7 @@ WRONG_RANGES = {
     "max": ["47 1048576 65536", "49 1048576 65536", "48 1048575 65536", "48 1048577 65536"],
     "workers": ["0 64 4", "2 64 4", "1 63 4", "1 65 4", "1 64 65"],
     "segment": ["0 268435456 65536", "1 268435455 65536", "1 268435457 65536"],
+    "shards": ["0 256 16", "2 256 16", "1 255 16", "1 257 16", "1 256 257"],
 }
 WRONG_POLYNOMIALS = [
     ("at most 16 digits", "at most 15 digits"),
@@ -237,7 +238,7 @@ def without_row(key):
     return (f".It Li {' Ta '.join(cells)}\n", "")
 
 
-WRONG_KEYS = [*map(without_row, ("polynomial", "max")), (".It Li bits Ta", ".It Li bit Ta")]
+WRONG_KEYS = [*map(without_row, ("polynomial", "max", "shards")), (".It Li bits Ta", ".It Li bit Ta")]
 
 
 @test

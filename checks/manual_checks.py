@@ -203,7 +203,7 @@ BESIDE = {
     "min": [("max", "most")],
     "max": [("min", "least")],
 }
-HOW = ("workers", "segment")
+HOW = ("workers", "segment", "shards")
 
 
 def number_of(key, word):
@@ -229,7 +229,7 @@ def is_key(words, word):
 
 
 def expect_keys(page):
-    words = sorted({*candidates(page), *keys_in(page), "batch", "shards", "seed"})
+    words = sorted({*candidates(page), *keys_in(page), "batch", "seed"})
     for name in (name for name, it in commands_in(page).items() if it.has_keys):
         wanted = [it for it in words if is_key(words_of(page, name), it)]
         shown = [key for key, it in keys_in(page).items() if name in it.commands]
@@ -330,7 +330,7 @@ def expect_defaults(page):
     expect_same("the head of a store without keys", head_of(defaults), head_of([]))
     # Some chunks end at a candidate, and some at the maximum.
     text = Path(PROGRAM).read_bytes() + bytes(100_000)
-    every = [f"{key}={it.default}" for key, it in keys.items()]
+    every = [f"{key}={it.default}" for key, it in keys.items() if "plan" in it.commands]
     expect(run([ABSENT, "plan"], text), output=run([ABSENT, "plan", *every], text).output)
 
 

@@ -146,9 +146,10 @@ WRONG_WORDS = [
     (["store", "ingest", "a", "segment=268435457"], "2: value"),
     (["store", "ingest", "a", "workers=4", "segment=1", "workers=0"], "4: twice"),
     (["store", "ingest", "a", "workers=4", "min=64"], "3: key"),
-    # Two keys of an ingest and of `bulk` are not built.
+    (["store", "ingest", "a", "shards=0"], "2: value"),
+    (["store", "ingest", "a", "shards=257"], "2: value"),
+    # One key of an ingest and of `bulk` is not built.
     (["store", "ingest", "a", "batch=65536"], "2: key"),
-    (["store", "ingest", "a", "shards=1"], "2: key"),
     (["store", "bulk"], NO_NAME),
     (["store", "bulk", "7"], "2: missing"),
     (["store", "bulk", "07"], NUMBER),
@@ -165,7 +166,7 @@ WRONG_WORDS = [
     (["store", "bulk", "7", "1", "workers=65"], "3: value"),
     (["store", "bulk", "7", "1", "workers=2", "workers=2"], "4: twice"),
     (["store", "bulk", "7", "1", "batch=65536"], "3: key"),
-    (["store", "bulk", "7", "1", "shards=1"], "3: key"),
+    (["store", "bulk", "7", "1", "shards=257"], "3: value"),
     (["store", "Bulk", "7", "1"], COMMAND),
     (["bulk", "7", "1"], COMMAND),
     # The name is looked at before the words after it.

@@ -1,4 +1,4 @@
-"""What workers and segments leave the same: the lines of `plan` and the files of a store."""
+"""What workers, segments and shards leave the same: the lines of `plan`, the files of a store."""
 
 from dataclasses import replace
 from itertools import product
@@ -90,7 +90,7 @@ def keys_of_workers_come_in_any_order_beside_others():
 
 
 @test
-def drawn_workers_and_segments_change_nothing():
+def drawn_workers_segments_and_shards_change_nothing():
     draw = Random(66)
     params, text = replace(DEFAULTS, bits=8, target=3, min=256, max=4096), draw.randbytes(200_000)
     wanted = reference.plan(params, text)
@@ -99,13 +99,15 @@ def drawn_workers_and_segments_change_nothing():
     after = dict(before.files)
     line = wanted_run(ingest, after, b"a", text)
 
-    def expect_row(workers, segment):
+    def expect_row(workers, segment, shards):
         keys = keys_of_workers(workers, segment)
         expect(run([STORE, "plan", *keys_of(params), *keys], text), output=wanted)
         write_files(FOLDER, before.files)
-        expect(run([FOLDER, "ingest", "a", *keys], text, changes=FOLDER), *line)
+        words = [FOLDER, "ingest", "a", *keys, f"shards={shards}"]
+        expect(run(words, text, changes=FOLDER), *line)
         expect_files(after, files_in(FOLDER))
 
     workers = draw.sample(range(1, 65), 30)
     segments = [draw.choice([draw.randint(40, 300), draw.randint(300, 99_999)]) for _ in workers]
-    each_row(zip(workers, segments), expect_row)
+    shards = [1, 256, *draw.sample(range(2, 256), 28)]
+    each_row(zip(workers, segments, shards), expect_row)

@@ -9,10 +9,10 @@ use Rattle.std.specs.List.{find, list_any}
 use Rattle.std.specs.Option.{option_or}
 use Rattle.std.specs.Str.{bytes_eq}
 use Rattle.sd_base.specs.Keys.{Key, bad_kind_of_value, is_equals_sign, key_name_of, number_of, sets_key, bad_kind_of, value_of, value_or_default}
-use Rattle.sd_base.specs.Words.{polynomial_key, bits_key, target_key, min_key, max_key, segment_key, workers_key, default_params, default_segment, default_workers}
+use Rattle.sd_base.specs.Words.{polynomial_key, bits_key, target_key, min_key, max_key, segment_key, shards_key, workers_key, default_params, default_segment, default_shards, default_workers}
 use Rattle.backup_top.specs.Words.{key_of, settings_after, settings_of, value_after, with_value}
 use Rattle.backup_top.specs.declared.settings.Setting.{Setting}
-use Rattle.backup_top.specs.declared.settings.Setting.TheVariants.{Polynomial, Bits, Target, Min, Max, Workers, Segment}
+use Rattle.backup_top.specs.declared.settings.Setting.TheVariants.{Polynomial, Bits, Target, Min, Max, Workers, Segment, Shards}
 use Rattle.backup_top.specs.declared.settings.Settings.{Settings}
 use Rattle.backup_top.proofs.KeysFlaws.{no_flaw}
 
@@ -57,6 +57,7 @@ settings_step keys before word none =
       value_step max_key before word default_params.max free,
       value_step workers_key before word default_workers free,
       value_step segment_key before word default_segment free,
+      value_step shards_key before word default_shards free,
     ) refl
 
 -- the same of the words of a list, up to one without a flaw
@@ -79,6 +80,7 @@ setting_set Min word value was named number = rw (named, number) refl
 setting_set Max word value was named number = rw (named, number) refl
 setting_set Workers word value was named number = rw (named, number) refl
 setting_set Segment word value was named number = rw (named, number) refl
+setting_set Shards word value was named number = rw (named, number) refl
 
 -- what is wrong with a word that names a key is wrong with its value
 pub bad_kind_by_value : (keys : List Key) (key : Key) (before : List (List ℕ)) (word : List ℕ)

@@ -160,8 +160,8 @@ IsAfterReading SourceFault = ⊥
 IsAfterReading ShelfFault = ⊥
 IsAfterReading OutOfMemory = ⊥
 
--- a refusal of an ingest before its input is read, or of `bulk` before it is made. A damage that is not that of a chunk is found when
--- the store is opened.
+-- A refusal of an ingest before its input is read, or of `bulk` before it is made. A damage that is
+-- not that of a chunk is found when the store is opened.
 abbrev pub IsBeforeReading : Outcome → Type 0
 IsBeforeReading NoStore = ⊤
 IsBeforeReading NameTaken = ⊤

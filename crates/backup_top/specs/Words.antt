@@ -2,7 +2,7 @@
 use Rattle.std.specs.Prelude.{ℕ, List, map, String, string_bytes, if◌then◌else◌, unwrap_or, Result, Ok, Err}
 use Rattle.std.specs.declared.alloc.Global.{Global}
 use Rattle.sd_base.specs.Keys.{Key, number_of, sets_key, value_of}
-use Rattle.sd_base.specs.Words.{how_keys, how_of, params_keys, params_of, plan_keys, polynomial_key, bits_key, target_key, min_key, max_key, segment_key, workers_key}
+use Rattle.sd_base.specs.Words.{how_of, ingest_keys, params_keys, params_of, plan_keys, polynomial_key, bits_key, target_key, min_key, max_key, segment_key, shards_key, workers_key}
 use Rattle.sd_base.specs.declared.how.How.{How}
 use Rattle.sd_base.specs.declared.raw_params.RawParams.{RawParams}
 use Rattle.sd_base.specs.declared.words.BadWords.{BadWords}
@@ -10,7 +10,7 @@ use Rattle.sd_base.specs.declared.words.Command.{Command}
 use Rattle.backup_top.specs.declared.settings.KeySet.{KeySet}
 use Rattle.backup_top.specs.declared.settings.KeySet.TheVariants.{Plan, Init, Ingest}
 use Rattle.backup_top.specs.declared.settings.Setting.{Setting}
-use Rattle.backup_top.specs.declared.settings.Setting.TheVariants.{Polynomial, Bits, Target, Min, Max, Workers, Segment}
+use Rattle.backup_top.specs.declared.settings.Setting.TheVariants.{Polynomial, Bits, Target, Min, Max, Workers, Segment, Shards}
 use Rattle.backup_top.specs.declared.settings.Settings.{Settings}
 
 -- the bytes of each word
@@ -46,6 +46,7 @@ abbrev pub how_after : List ℕ → How → How
 how_after word was = record was {
   workers = value_after word workers_key was.workers;
   segment = value_after word segment_key was.segment;
+  shards = value_after word shards_key was.shards;
 }
 
 -- what words set after a word, from what they set before
@@ -56,7 +57,7 @@ settings_after word was = record { raw = params_after word was.raw; how = how_af
 abbrev pub keys_of : KeySet → List Key
 keys_of Plan = plan_keys
 keys_of Init = params_keys
-keys_of Ingest = how_keys
+keys_of Ingest = ingest_keys
 
 -- the key of a setting
 abbrev pub key_of : Setting → Key
@@ -67,6 +68,7 @@ key_of Min = min_key
 key_of Max = max_key
 key_of Workers = workers_key
 key_of Segment = segment_key
+key_of Shards = shards_key
 
 -- what words set, with another value of one setting
 abbrev pub with_value : Setting → ℕ → Settings → Settings
@@ -77,3 +79,4 @@ with_value Min value was = record was { raw = record was.raw { min = value } }
 with_value Max value was = record was { raw = record was.raw { max = value } }
 with_value Workers value was = record was { how = record was.how { workers = value } }
 with_value Segment value was = record was { how = record was.how { segment = value } }
+with_value Shards value was = record was { how = record was.how { shards = value } }

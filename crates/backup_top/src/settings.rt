@@ -1,18 +1,18 @@
 //! What the words after a command set, by keys.
 
-ghost use Rattle.std.specs.Prelude.{◌≡◌, ◌≤◌, [], Some, None, IfOk, OnOk, MatchOption};
+ghost use Rattle.std.specs.Prelude.{◌≡◌, ◌≤◌, [], ◌∷◌, Some, None, IfOk, OnOk, MatchOption};
 ghost use Rattle.std.specs.List.{find};
 ghost use Rattle.std.specs.Result.{result_err};
 ghost use Rattle.std.specs.Str.{bytes_eq};
 ghost use Rattle.sd_base.specs.Keys.{bad_kind_of, first_bad_word};
-ghost use Rattle.sd_base.specs.Words.{how_keys, params_keys};
+ghost use Rattle.sd_base.specs.Words.{ingest_keys, params_keys, segment_key, workers_key};
 ghost use Rattle.backup_top.specs.Keys.{key_spec_of};
 ghost use Rattle.backup_top.specs.Words.{key_of, keys_of, settings_after, settings_of, texts_of, with_value};
 
 use crate::keys::{Key, Spelling, read_value, split_word};
 use sd_base::{
     BadKind, BadWords, DEFAULT_BATCH, DEFAULT_BITS, DEFAULT_MAX, DEFAULT_MIN, DEFAULT_POLYNOMIAL,
-    DEFAULT_SEGMENT, DEFAULT_SHARDS, DEFAULT_TARGET, DEFAULT_WORKERS, How, MAX_SEGMENT,
+    DEFAULT_SEGMENT, DEFAULT_SHARDS, DEFAULT_TARGET, DEFAULT_WORKERS, How, MAX_SEGMENT, MAX_SHARDS,
     MAX_WORKERS, RawParams,
 };
 
@@ -80,10 +80,10 @@ fn setting_named(keys: KeySet, name: &str) -> Option<Setting>
     match keys {
         KeySet::Plan => match Setting::of_params(name) {
             Some(setting) => Some(setting),
-            None => Setting::of_how(name),
+            None => Setting::of_workers(name),
         },
         KeySet::Init => Setting::of_params(name),
-        KeySet::Ingest => Setting::of_how(name),
+        KeySet::Ingest => Setting::of_ingest(name),
     }
 }
 
@@ -97,6 +97,7 @@ enum Setting {
     Max,
     Workers,
     Segment,
+    Shards,
 }
 
 impl Setting {
@@ -116,15 +117,29 @@ impl Setting {
         }
     }
 
-    // What says how a command is carried out, by its name.
-    fn of_how(name: &str) -> Option<Setting>
-        ensures { MatchOption result (find (λ key. bytes_eq key.name name.now) how_keys ≡ None)
+    // What says how a scan is shared by workers, by its name.
+    fn of_workers(name: &str) -> Option<Setting>
+        ensures { MatchOption result (find (λ key. bytes_eq key.name name.now) (workers_key ∷ segment_key ∷ []) ≡ None)
             (λ setting. (name.now ≡ (key_of setting).name)
-            × (find (λ key. bytes_eq key.name name.now) how_keys ≡ Some (key_of setting))) }
+            × (find (λ key. bytes_eq key.name name.now) (workers_key ∷ segment_key ∷ []) ≡ Some (key_of setting))) }
     {
         match name {
             "workers" => Some(Setting::Workers),
             "segment" => Some(Setting::Segment),
+            _ => None,
+        }
+    }
+
+    // What says how an ingest is carried out, by its name.
+    fn of_ingest(name: &str) -> Option<Setting>
+        ensures { MatchOption result (find (λ key. bytes_eq key.name name.now) ingest_keys ≡ None)
+            (λ setting. (name.now ≡ (key_of setting).name)
+            × (find (λ key. bytes_eq key.name name.now) ingest_keys ≡ Some (key_of setting))) }
+    {
+        match name {
+            "workers" => Some(Setting::Workers),
+            "segment" => Some(Setting::Segment),
+            "shards" => Some(Setting::Shards),
             _ => None,
         }
     }
@@ -140,6 +155,7 @@ impl Setting {
             Setting::Max => MAX,
             Setting::Workers => WORKERS,
             Setting::Segment => SEGMENT,
+            Setting::Shards => SHARDS,
         }
     }
 
@@ -155,6 +171,7 @@ impl Setting {
             Setting::Max => settings.raw.max = value as u32,
             Setting::Workers => settings.how.workers = value as u32,
             Setting::Segment => settings.how.segment = value as u32,
+            Setting::Shards => settings.how.shards = value as u32,
         }
     }
 }
@@ -214,5 +231,11 @@ const WORKERS: Key = Key {
 const SEGMENT: Key = Key {
     name: "segment",
     greatest: MAX_SEGMENT as u64,
+    ..WORKERS
+};
+
+const SHARDS: Key = Key {
+    name: "shards",
+    greatest: MAX_SHARDS as u64,
     ..WORKERS
 };

@@ -8,10 +8,11 @@ use sd_base::STATE_BYTES;
 /// Bytes that a state gives.
 pub(crate) const STATE_LEN: usize = STATE_BYTES as usize;
 
-/// The multiplier and the increment of MMIX (D. E. Knuth, The Art of Computer Programming, volume
-/// 2, section 3.3.4).
+/// The multiplier of a step from a state to the next, one of the table in D. E. Knuth, The Art of
+/// Computer Programming, volume 2, section 3.3.4.
 const MULTIPLIER: u64 = 6_364_136_223_846_793_005;
 
+/// What a step adds.
 const INCREMENT: u64 = 1_442_695_040_888_963_407;
 
 /// By how much the state before a block is greater than that of the origin before: the fraction of

@@ -8,14 +8,15 @@ use std::test::Fail;
 use std::thread::Threads;
 
 // Command lines, and the word of each that fails.
-static BAD: [(&str, BadKind, u32); 9] = [
+static BAD: [(&str, BadKind, u32); 10] = [
     ("store,bulk", BadKind::Missing, 1),
     ("store,bulk,7", BadKind::Missing, 2),
     ("store,bulk,07,1", BadKind::Number, 1),
     ("store,bulk,18446744073709551616,1", BadKind::Number, 1),
     ("store,bulk,7,0", BadKind::Number, 2),
     ("store,bulk,7,4097", BadKind::Number, 2),
-    ("store,bulk,7,1,shards=1", BadKind::Key, 3),
+    ("store,bulk,7,1,batch=65536", BadKind::Key, 3),
+    ("store,bulk,7,1,shards=257", BadKind::Value, 3),
     ("store,bulk,7,1,workers=65", BadKind::Value, 3),
     ("store,bulk,7,1,workers=1,workers=1", BadKind::Twice, 4),
 ];
@@ -36,7 +37,7 @@ const MOST: Command = Command::Bulk {
         workers: 8,
         segment: 47,
         batch: 1_048_576,
-        shards: 16,
+        shards: 256,
     },
 };
 
@@ -49,7 +50,7 @@ fn words_of_bulk_are_read_from_left_to_right(rt: HostRuntime) -> Result<(), Fail
         });
         assert!(rt; is_read_as(rt.alloc(), line, bad)?, "{line}");
     }
-    let line = "store,bulk,18446744073709551615,4096,segment=47,workers=8";
+    let line = "store,bulk,18446744073709551615,4096,segment=47,shards=256,workers=8";
     assert!(rt; is_read_as(rt.alloc(), line, Ok(MOST))?, "{line}");
     Ok(())
 }

@@ -147,7 +147,7 @@ const MANY: How = How {
     workers: 64,
     segment: 268_435_456,
     batch: 1_048_576,
-    shards: 16,
+    shards: 1,
 };
 
 #[test]
@@ -160,7 +160,7 @@ fn each_command_of_the_store_has_its_words(rt: HostRuntime) -> Result<(), Fail> 
         ),
         ("store,ingest,a.1", Command::Ingest { name, how: HOW }),
         (
-            "store,ingest,a.1,segment=268435456,workers=64",
+            "store,ingest,a.1,segment=268435456,shards=1,workers=64",
             Command::Ingest { name, how: MANY },
         ),
         (

@@ -9,7 +9,7 @@ use Rattle.std.proofs.lemmas.Bool.{cases_Bool, leb-true, and_parts}
 use Rattle.sd_base.specs.Commands.{AreBlocks, AreRawParams, IsSeed, HasSessionName, HasNumbersInRange, HasRawParams, IsHow}
 use Rattle.sd_base.specs.Keys.{Key, first_bad_word, is_spelled, number_of, sets_key, value_of, value_or_default}
 use Rattle.sd_base.specs.Names.{IsName, bad_name}
-use Rattle.sd_base.specs.Words.{blocks_number, bulk_of, bulk_of_numbers, bulk_of_seed, seed_number, command_of, default_params, default_segment, default_workers, how_keys, how_of, params_keys, plan_keys, segment_key, workers_key, params_of, session_command_of, unless_bad, polynomial_key, bits_key, target_key, min_key, max_key}
+use Rattle.sd_base.specs.Words.{blocks_number, bulk_of, bulk_of_numbers, bulk_of_seed, seed_number, command_of, default_params, default_segment, default_shards, default_workers, how_of, ingest_keys, params_keys, plan_keys, segment_key, shards_key, workers_key, params_of, session_command_of, unless_bad, polynomial_key, bits_key, target_key, min_key, max_key}
 use Rattle.sd_base.specs.declared.words.BadWords.{BadWords}
 use Rattle.sd_base.specs.declared.words.Command.{Command}
 use Rattle.sd_base.specs.declared.words.Command.TheVariants.{Quiet, Ingest, Bulk}
@@ -69,7 +69,7 @@ how-fits words = record {
   workers = (value-least words workers_key default_workers (lit≤ tt), value-most words workers_key default_workers (lit≤ tt));
   segment = (value-least words segment_key default_segment (lit≤ tt), value-most words segment_key default_segment (lit≤ tt));
   batch = (lit≤ tt, lit≤ tt);
-  shards = (lit≤ tt, lit≤ tt);
+  shards = (value-least words shards_key default_shards (lit≤ tt), value-most words shards_key default_shards (lit≤ tt));
 }
 
 pub params-fit : (words : List (List ℕ)) → AreRawParams (params_of words)
@@ -130,7 +130,7 @@ module _ (P : Command → Type 0) where
       IfOk (bulk_of_numbers seed blocks words) P
   bulk_numbers-keep seed None words fits are holds = tt
   bulk_numbers-keep seed (Some blocks) words fits are holds =
-      unless_bad-keeps (first_bad_word how_keys [] 3 words) (Bulk seed blocks (how_of words)) (holds blocks words are)
+      unless_bad-keeps (first_bad_word ingest_keys [] 3 words) (Bulk seed blocks (how_of words)) (holds blocks words are)
 
   bulk_seed-keeps : (seed : Option ℕ) (words : List (List ℕ)) → IfSome seed IsSeed →
       ((n blocks : ℕ) (more : List (List ℕ)) → IsSeed n → AreBlocks blocks → P (Bulk n blocks (how_of more))) →
@@ -164,7 +164,7 @@ module _ (P : Command → Type 0) where
       (either (bytes_eq word (codes "init")) _ _
       (unless_bad-keeps bad_parameter (Quiet (Init (params_of words))) (init words))
       (either (bytes_eq word (codes "ingest")) _ _
-      (session_command-keeps how_keys (λ name more. Ingest name (how_of more)) words ingest)
+      (session_command-keeps ingest_keys (λ name more. Ingest name (how_of more)) words ingest)
       (either (bytes_eq word (codes "bulk")) _ _ (bulk-keeps words bulk)
       (either (bytes_eq word (codes "list")) _ _
       (unless_bad-keeps (first_bad_word [] [] 1 words) (Quiet ListSessions) list)

@@ -1,13 +1,13 @@
--- When a list of chunks is the cutting of its bytes, chunk by chunk. Each test looks at the bytes of
--- one chunk, at positions from the minimum on: the whole window before such a position lies in the
--- chunk.
+-- When a list of chunks is the cutting of its bytes, chunk by chunk. Each test looks at the bytes
+-- of one chunk, at positions from the minimum on: the whole window before such a position lies in
+-- the chunk.
 use Rattle.std.specs.Prelude.{◌≡◌, ◌⊎◌, ℕ, ◌+◌, ◌<◌, ◌≤◌, List, [], length, slice_index_or}
 use Rattle.std.specs.List.{concat}
 use Rattle.sd_base.specs.Cutting.{IsCandidate, chunks_of}
 use Rattle.sd_base.specs.declared.raw_params.RawParams.{RawParams}
 
--- no cut lies in a chunk: it is not longer than the maximum, and no position before its end at which
--- it might end is a candidate
+-- no cut lies in a chunk: it is not longer than the maximum, and no position before its end at
+-- which it might end is a candidate
 pub record HasNoCutInside (params : RawParams) (chunk : List ℕ) : Type 0 where
   pub within : length chunk ≤ params.max
   pub none : (p : ℕ) → params.min ≤ p → p < length chunk → IsCandidate params chunk p → ⊥

@@ -328,14 +328,17 @@ command_of-ingest_two_bad_words = refl
 
 -- the keys of how a command is carried out come in any order
 pub command_of-ingest_with_keys :
-    command_of (codes "ingest" ∷ codes "a" ∷ codes "segment=268435456" ∷ codes "workers=64" ∷ [])
-    ≡ Ok (Ingest (codes "a") (record default_how { workers = 64; segment = 268435456 }))
+    command_of (codes "ingest" ∷ codes "a" ∷ codes "shards=256" ∷ codes "segment=268435456" ∷ codes "workers=64" ∷ [])
+    ≡ Ok (Ingest (codes "a") (record default_how { workers = 64; segment = 268435456; shards = 256 }))
 command_of-ingest_with_keys = refl
 
 pub command_of-ingest_with_no_workers : command_of (codes "ingest" ∷ codes "a" ∷ codes "workers=0" ∷ []) ≡ bad_word Value 2
 command_of-ingest_with_no_workers = refl
 
--- two keys of `ingest` are not there yet
+pub command_of-ingest_with_257_shards : command_of (codes "ingest" ∷ codes "a" ∷ codes "shards=257" ∷ []) ≡ bad_word Value 2
+command_of-ingest_with_257_shards = refl
+
+-- one key of `ingest` is not there yet
 pub command_of-ingest_with_batch : command_of (codes "ingest" ∷ codes "a" ∷ codes "batch=65536" ∷ []) ≡ bad_word NoKey 2
 command_of-ingest_with_batch = refl
 

@@ -1,6 +1,6 @@
--- The input of `bulk`: blocks of bytes that follow from a seed. The step from a state to the next is
--- that of the linear congruential generator of MMIX (D. E. Knuth, The Art of Computer Programming,
--- volume 2, section 3.3.4). All else here is this project's own.
+-- The input of `bulk`: blocks of bytes that follow from a seed. A state leads to the next by a linear
+-- congruential step, whose multiplier is one of the table in D. E. Knuth, The Art of Computer
+-- Programming, volume 2, section 3.3.4. All else here is this project's own.
 use Rattle.std.specs.Prelude.{ℕ, ◌+◌, ◌-◌, ◌*◌, ◌/◌, ◌%◌, ◌^◌, ◌==◌, if◌then◌else◌, List, ◌++◌, codes}
 use Rattle.std.specs.Fmt.{decimal}
 use Rattle.std.specs.Fn.{iterate}

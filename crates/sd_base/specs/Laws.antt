@@ -1,13 +1,13 @@
 -- Laws of the definitions: what follows from them, in the words of the subject.
 use Rattle.std.specs.Prelude.{◌≡◌, ◌≢◌, ◌↔◌, ℕ, ◌+◌, ◌*◌, ◌^◌, ◌<◌, ◌≤◌, List, [], ◌∷◌, length, take, drop, slice_index_or, None, IfOk}
 use Rattle.std.specs.List.{All, concat}
-use Rattle.sd_base.specs.Commands.{HasSessionName, HasNumbersInRange, HasRawParams}
+use Rattle.sd_base.specs.Commands.{AreBlocks, HasSessionName, HasNumbersInRange, HasRawParams}
 use Rattle.sd_base.specs.Generator.{bulk_input}
 use Rattle.sd_base.specs.Names.{IsName, bad_name}
 use Rattle.sd_base.specs.Parameters.{IsValid, bad_parameter}
 use Rattle.sd_base.specs.Cutting.{IsNextCut, next_cut, chunks_of}
 use Rattle.sd_base.specs.Words.{command_of}
-use Rattle.sd_base.specs.declared.limits.TheConstants.{BLOCK_LEN}
+use Rattle.sd_base.specs.declared.limits.TheConstants.{BLOCK_LEN, MAX_INPUT}
 use Rattle.sd_base.specs.declared.raw_params.RawParams.{RawParams}
 
 -- from each position exactly one position is the next cut, and it is `next_cut`
@@ -57,6 +57,10 @@ NamesAreTheRefusals = (bytes : List ℕ) → IsName bytes ↔ (bad_name bytes �
 -- the input of `bulk` has 65,536 bytes for each block
 abbrev pub BulkInputsHaveTheirLength : Type 0
 BulkInputsHaveTheirLength = (seed blocks : ℕ) → length (bulk_input seed blocks) ≡ BLOCK_LEN * blocks
+
+-- no input of `bulk` is too long
+abbrev pub BulkInputsAreNotTooLong : Type 0
+BulkInputsAreNotTooLong = (seed blocks : ℕ) → AreBlocks blocks → length (bulk_input seed blocks) ≤ MAX_INPUT
 
 -- the numbers with which a command is carried out are in their ranges, if words name the command
 abbrev pub WordsGiveNumbersInRange : Type 0

@@ -4,7 +4,7 @@ use Rattle.std.specs.Str.{bytes_eq}
 use Rattle.sd_base.specs.Keys.{Key, decimal_key, first_bad_word, number_of, value_or_default}
 use Rattle.sd_base.specs.Names.{bad_name}
 use Rattle.sd_base.specs.declared.how.How.{How}
-use Rattle.sd_base.specs.declared.limits.TheConstants.{MAX_BLOCKS, MAX_SEGMENT, MAX_WORKERS}
+use Rattle.sd_base.specs.declared.limits.TheConstants.{MAX_BLOCKS, MAX_SEGMENT, MAX_SHARDS, MAX_WORKERS}
 use Rattle.sd_base.specs.declared.raw_params.RawParams.{RawParams}
 use Rattle.sd_base.specs.declared.words.BadKind.{BadKind}
 use Rattle.sd_base.specs.declared.words.BadKind.TheVariants.{Missing, Command as NoCommand, Name as NoName, Number as NoNumber}
@@ -18,17 +18,19 @@ use Rattle.sd_base.specs.declared.words.Command.TheVariants.{Quiet, Ingest, Bulk
 abbrev pub default_params : RawParams
 default_params = record { polynomial = 0x3DA3358B4DC173; bits = 13; target = 120; min = 2048; max = 65536 }
 
--- the number of workers and the bytes of a segment if none are given
+-- the number of workers, the bytes of a segment and the number of shards if none are given
 abbrev pub default_workers : ℕ
 default_workers = 4
 
 abbrev pub default_segment : ℕ
 default_segment = 65536
 
--- how `ingest` and `bulk` are carried out if no key is given. No word sets the bytes of a batch and the number
--- of shards yet.
+abbrev pub default_shards : ℕ
+default_shards = 16
+
+-- How `ingest` and `bulk` are carried out if no key is given. No word sets the bytes of a batch yet.
 abbrev pub default_how : How
-default_how = record { workers = default_workers; segment = default_segment; batch = 1048576; shards = 16 }
+default_how = record { workers = default_workers; segment = default_segment; batch = 1048576; shards = default_shards }
 
 -- `plan` if no key is given
 abbrev pub default_plan : Command
@@ -60,12 +62,16 @@ workers_key = decimal_key (codes "workers") 1 MAX_WORKERS
 abbrev pub segment_key : Key
 segment_key = decimal_key (codes "segment") 1 MAX_SEGMENT
 
-abbrev pub how_keys : List Key
-how_keys = workers_key ∷ segment_key ∷ []
+abbrev pub shards_key : Key
+shards_key = decimal_key (codes "shards") 1 MAX_SHARDS
 
 -- the keys of `plan`
 abbrev pub plan_keys : List Key
-plan_keys = params_keys ++ how_keys
+plan_keys = params_keys ++ (workers_key ∷ segment_key ∷ [])
+
+-- the keys of `ingest` and `bulk`
+abbrev pub ingest_keys : List Key
+ingest_keys = workers_key ∷ segment_key ∷ shards_key ∷ []
 
 -- the parameters that words set
 abbrev pub params_of : List (List ℕ) → RawParams
@@ -82,6 +88,7 @@ abbrev pub how_of : List (List ℕ) → How
 how_of words = record default_how {
   workers = value_or_default words workers_key default_workers;
   segment = value_or_default words segment_key default_segment;
+  shards = value_or_default words shards_key default_shards;
 }
 
 -- the refusal of the word at a place
@@ -112,7 +119,7 @@ session_command_of keys command (name ∷ words) =
 
 -- the words after `ingest`
 abbrev pub ingest_of : List (List ℕ) → Result Command BadWords
-ingest_of words = session_command_of how_keys (λ name more. Ingest name (how_of more)) words
+ingest_of words = session_command_of ingest_keys (λ name more. Ingest name (how_of more)) words
 
 -- The numbers of `bulk`: words that are spelled as the decimal values of keys are. Their names are
 -- those in the manual.
@@ -126,7 +133,7 @@ blocks_number = decimal_key (codes "BLOCKS") 1 MAX_BLOCKS
 abbrev pub bulk_of_numbers : ℕ → Option ℕ → List (List ℕ) → Result Command BadWords
 bulk_of_numbers seed None words = bad_word NoNumber 2
 bulk_of_numbers seed (Some blocks) words =
-    unless_bad (first_bad_word how_keys [] 3 words) (Bulk seed blocks (how_of words))
+    unless_bad (first_bad_word ingest_keys [] 3 words) (Bulk seed blocks (how_of words))
 
 -- the words after the seed of `bulk`, if the word for it is a number
 abbrev pub bulk_of_seed : Option ℕ → List (List ℕ) → Result Command BadWords

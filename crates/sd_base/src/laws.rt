@@ -1,7 +1,7 @@
 //! Laws of the definitions in `specs/`. Each is the contract of a function that does nothing, and
 //! holds for all parameters and inputs that it names.
 
-ghost use Rattle.sd_base.specs.Laws.{OnePositionIsTheNextCut, AnEmptyInputHasNoChunks, TheTailIsCutAlone, ChunksJoinToTheInput, ChunksAreFilledAndBounded, ChunksReachTheMinimum, RangesAreTheRefusals, NamesAreTheRefusals, WordsGiveNumbersInRange, WordsGiveNames, WordsGiveRawParams, BulkInputsHaveTheirLength};
+ghost use Rattle.sd_base.specs.Laws.{OnePositionIsTheNextCut, AnEmptyInputHasNoChunks, TheTailIsCutAlone, ChunksJoinToTheInput, ChunksAreFilledAndBounded, ChunksReachTheMinimum, RangesAreTheRefusals, NamesAreTheRefusals, WordsGiveNumbersInRange, WordsGiveNames, WordsGiveRawParams, BulkInputsHaveTheirLength, BulkInputsAreNotTooLong};
 
 /// The next cut by search is the next cut by the relation that has no search in it.
 pub fn next_cut_is_the_least()
@@ -36,7 +36,8 @@ pub fn names_are_the_refusals()
 
 /// The input of `bulk` is as long as its blocks: with the most blocks, as long as the longest input.
 pub fn bulk_inputs_have_their_length()
-    ensures { BulkInputsHaveTheirLength }
+    ensures length { BulkInputsHaveTheirLength }
+    ensures fits { BulkInputsAreNotTooLong }
 {}
 
 /// What words give a command is in its range, so that a run of words needs no condition on them.
