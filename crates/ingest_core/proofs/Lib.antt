@@ -14,6 +14,8 @@ mod PartLemmas
 mod Refusals
 -- an input that is taken into a store that stands for a state
 mod TakingLemmas
+-- a recipe that is looked through for the first place out of order
+mod OrderLemmas
 -- an ingest goes by the committed records
 mod BookLemmas
 -- a store that is opened over files that hold a state

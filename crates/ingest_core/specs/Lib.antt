@@ -10,3 +10,5 @@ pub mod Ingests
 pub mod Offering
 -- what a plan shows of an input
 pub mod Plans
+-- what the look of an audit for chunks out of order finds
+pub mod AuditOrder

@@ -79,13 +79,13 @@ below-from_position limit (n ∷ entries) all = elim (cases_lt n limit) [
   | inr above ↦ let none = rw (le-leb limit n above) at all in absurd (omega (arith, none))
 ]
 
-no_position : (limit : ℕ) (entries : List ℕ) → position (λ n. nat_le limit n) entries ≡ None → AllByRecursion (λ n. n < limit) entries
+pub no_position : (limit : ℕ) (entries : List ℕ) → position (λ n. nat_le limit n) entries ≡ None → AllByRecursion (λ n. n < limit) entries
 no_position limit entries none = elim (cases_lt (position_or_len (λ n. nat_le limit n) entries) (length entries)) [
   | inl found ↦ let clash = rw (lt-ltb (position_or_len (λ n. nat_le limit n) entries) (length entries) found) at none in absurd cc
   | inr all ↦ below-from_position limit entries all
 ]
 
-neither : (a b : Option ℕ) → or_else a b ≡ None → (a ≡ None) × (b ≡ None)
+pub neither : (a b : Option ℕ) → or_else a b ≡ None → (a ≡ None) × (b ≡ None)
 neither None b none = (refl, none)
 neither (Some place) b none = absurd cc
 
@@ -95,7 +95,7 @@ same_if_none a b c none = elim (cases_Bool (a == b)) [
   | inr other ↦ let clash = rw other at none in absurd cc
 ]
 
-no_flaw_at : (session : ℕ) (place : Option ℕ) (later : Option Damage) → flaw_at session place later ≡ None → (place ≡ None) × (later ≡ None)
+pub no_flaw_at : (session : ℕ) (place : Option ℕ) (later : Option Damage) → flaw_at session place later ≡ None → (place ≡ None) × (later ≡ None)
 no_flaw_at session None later none = (refl, none)
 no_flaw_at session (Some place) later none = absurd cc
 

@@ -41,7 +41,7 @@ contained-names (e ∷ entries) n at = elim (cases_Bool (e == n)) [
 ]
 
 -- the numbers from a on that pass, if those below c pass and the others do not
-count-front : (p : ℕ → Bool) (a n c : ℕ) → a ≤ c → c ≤ a + n → ((i : ℕ) → a ≤ i → i < c → p i ≡ true) →
+pub count-front : (p : ℕ → Bool) (a n c : ℕ) → a ≤ c → c ≤ a + n → ((i : ℕ) → a ≤ i → i < c → p i ≡ true) →
     ((i : ℕ) → c ≤ i → p i ≡ false) → a + count_by p (range_with_len a n) ≡ c
 count-front p a zero c low high passes fails = omega arith
 count-front p a (suc n) c low high passes fails =

@@ -1,0 +1,3 @@
+//! A look at all that a store keeps.
+
+mod order;
