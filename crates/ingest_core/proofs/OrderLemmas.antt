@@ -112,7 +112,7 @@ end-walked known recipe total place now end walked before = (
 
 -- ---- the sessions of a book
 
--- the session of a number has this entry
+-- the session of a number has this entry: its recipe is that of the entry
 abbrev pub IsEntry : List Session → ℕ → IngestRecord → Type 0
 IsEntry sessions k entry = option_map (λ (s : Session). s.entry) (slice_get sessions k) ≡ Some entry
 
@@ -171,6 +171,7 @@ entries-below kept j (s ∷ sessions) (suc k) entry total none is size =
     let after = length-append s.entry.fresh (chunks_in (take (suc k) sessions)) in
     entries-below all (j + 1) sessions k entry total parts.1 is (omega (arith, size, joined, after))
 
+-- which the list that was looked through does too
 pub entries-named : (sessions : List Session) (k : ℕ) (entry : IngestRecord) (recipe : List ℕ) (total : ℕ) →
     recipe_damage [] 0 sessions ≡ None → IsEntry sessions k entry → recipe ≡ entry.recipe →
     total ≡ length (chunks_in (take (suc k) sessions)) → All (λ n. n < total) recipe
@@ -184,6 +185,16 @@ pub record IsSession (book : BookState) (k : ℕ) (recipe : List ℕ) (known tot
   pub known_is : known ≡ chunks_before book k
   pub total_is : total ≡ chunks_before book (suc k)
 
+pub session-found : (book : BookState) (k : ℕ) (entry : IngestRecord) (recipe : List ℕ) (fresh : List NewChunk) (known : ℕ) →
+    IsEntry book.sessions k entry → recipe ≡ entry.recipe → fresh ≡ entry.fresh → known ≡ chunks_before book k →
+    IsSession book k recipe known (known + length fresh)
+session-found book k entry recipe fresh known is named new before = record {
+  recipe_is = named ∙ sym (entry-recipe book.sessions k entry is);
+  known_is = before;
+  total_is = let more = entry-chunks book.sessions k entry is in omega (arith, more, ap length new, before);
+}
+
+-- it is in order as a whole, or its first place that is out of order was found
 pub session-in_order : (book : BookState) (k : ℕ) (recipe : List ℕ) (known total : ℕ) → IsSession book k recipe known total →
     HoldsBelow (suc (length recipe)) (IsPlaceInOrder known recipe total) → HoldsBelow (places_and_end book k) (IsInOrder book k)
 session-in_order book k recipe known total is holds =

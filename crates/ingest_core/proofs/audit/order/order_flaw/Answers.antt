@@ -3,7 +3,7 @@ use Rattle.std.specs.Option.{option_copied}
 use Rattle.sd_base.specs.Firsts.{HoldsBelow}
 use Rattle.sd_base.specs.Flaws.{IsInOrder, chunks_before, places_and_end}
 use Rattle.store_core.proofs.RestoreLemmas.{places-of}
-use Rattle.ingest_core.proofs.OrderLemmas.{IsEntry, IsSession, below-one_more, chunks-few, entries-named, entry-chunks, entry-recipe, session-flaw, session-in_order}
+use Rattle.ingest_core.proofs.OrderLemmas.{IsEntry, below-one_more, chunks-few, entries-named, entry-chunks, session-flaw, session-found, session-in_order}
 use Rattle.ingest_core.proofs.audit.order.order_flaw.Goals as goal
 
 pub prove-unreachable-requires : goal.prove-unreachable-requires
@@ -35,24 +35,19 @@ place_out_of_order-requires-clause-named c =
 
 pub returns-in-Some-clause-first : goal.returns-in-Some-clause-first
 returns-in-Some-clause-first c =
-    let sessions = c.args.book.now.sessions in
-    let k = c.loop-session.session in
-    let entry = c.in_ok-entry.entry.now in
-    let is : IsEntry sessions k entry = sym c.session.ensures ∙ ap option_copied c.in_ok-entry.was in
-    let more = entry-chunks sessions k entry is in
-    let count = ap length c.as_slice-fresh.ensures in
-    let own : IsSession c.args.book.now k c.as_slice-recipe.result.now c.loop-session.known (c.loop-session.known + length c.as_slice-fresh.result.now) = record {
-      recipe_is = c.as_slice-recipe.ensures ∙ sym (entry-recipe sessions k entry is);
-      known_is = c.loop-session.invariant.counted;
-      total_is = omega (arith, more, count, c.loop-session.invariant.counted);
-    } in
+    let book = c.args.book.now in
+    let l = c.loop-session in
+    let recipe = c.as_slice-recipe.result.now in
+    let own = session-found book l.session c.in_ok-entry.entry.now recipe c.as_slice-fresh.result.now l.known
+    (sym c.session.ensures ∙ ap option_copied c.in_ok-entry.was) c.as_slice-recipe.ensures c.as_slice-fresh.ensures l.invariant.counted in
     record {
-      session = k;
+      session = l.session;
       place = c.in-Some.place;
       first = record {
         within = omega (arith, c.loop-session-test.true, c.sessions-session-end.ensures);
-        before = c.loop-session.invariant.in_order;
-        first = session-flaw c.args.book.now k c.as_slice-recipe.result.now c.loop-session.known (c.loop-session.known + length c.as_slice-fresh.result.now) c.in-Some.place own c.in-Some.ensures.first;
+        before = l.invariant.in_order;
+        first = session-flaw book l.session recipe l.known (l.known + length c.as_slice-fresh.result.now) c.in-Some.place own
+            c.in-Some.ensures.first;
       };
       equals = refl;
     }
@@ -60,21 +55,15 @@ returns-in-Some-clause-first c =
 pub loop-session-preserved : goal.loop-session-preserved
 loop-session-preserved c =
     let book = c.args.book.now in
-    let k = c.loop-session.session in
-    let entry = c.in_ok-entry.entry.now in
-    let is : IsEntry book.sessions k entry = sym c.session.ensures ∙ ap option_copied c.in_ok-entry.was in
-    let more = entry-chunks book.sessions k entry is in
-    let count = ap length c.as_slice-fresh.ensures in
-    let own : IsSession book k c.as_slice-recipe.result.now c.loop-session.known (c.loop-session.known + length c.as_slice-fresh.result.now) = record {
-      recipe_is = c.as_slice-recipe.ensures ∙ sym (entry-recipe book.sessions k entry is);
-      known_is = c.loop-session.invariant.counted;
-      total_is = omega (arith, more, count, c.loop-session.invariant.counted);
-    } in
-    let one : suc k ≡ k + 1 = omega arith in
+    let l = c.loop-session in
+    let recipe = c.as_slice-recipe.result.now in
+    let total = l.known + length c.as_slice-fresh.result.now in
+    let own = session-found book l.session c.in_ok-entry.entry.now recipe c.as_slice-fresh.result.now l.known
+    (sym c.session.ensures ∙ ap option_copied c.in_ok-entry.was) c.as_slice-recipe.ensures c.as_slice-fresh.ensures l.invariant.counted in
+    let one : suc l.session ≡ l.session + 1 = omega arith in
     record {
-      counted = subst (λ (n : ℕ). c.loop-session.known + length c.as_slice-fresh.result.now ≡ chunks_before book n) one own.total_is;
-      in_order = below-one_more (λ k. HoldsBelow (places_and_end book k) (IsInOrder book k)) k (k + 1) (omega arith)
-          c.loop-session.invariant.in_order
-          (session-in_order book k c.as_slice-recipe.result.now c.loop-session.known (c.loop-session.known + length c.as_slice-fresh.result.now) own
-          (c.in_default.ensures.none refl));
+      counted = subst (λ (n : ℕ). total ≡ chunks_before book n) one own.total_is;
+      in_order = below-one_more (λ k. HoldsBelow (places_and_end book k) (IsInOrder book k)) l.session (l.session + 1) (omega arith)
+          l.invariant.in_order
+          (session-in_order book l.session recipe l.known total own (c.in_default.ensures.none refl));
     }
