@@ -171,7 +171,7 @@ entries-below kept j (s ∷ sessions) (suc k) entry total none is size =
     let after = length-append s.entry.fresh (chunks_in (take (suc k) sessions)) in
     entries-below all (j + 1) sessions k entry total parts.1 is (omega (arith, size, joined, after))
 
--- which the list that was looked through does too
+-- and so do those of the list that was looked through
 pub entries-named : (sessions : List Session) (k : ℕ) (entry : IngestRecord) (recipe : List ℕ) (total : ℕ) →
     recipe_damage [] 0 sessions ≡ None → IsEntry sessions k entry → recipe ≡ entry.recipe →
     total ≡ length (chunks_in (take (suc k) sessions)) → All (λ n. n < total) recipe

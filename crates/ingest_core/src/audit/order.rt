@@ -9,9 +9,9 @@ ghost use Rattle.sd_base.specs.Flaws.{AreInOrder};
 use sd_base::Damage;
 use session_book::Book;
 
-/// The first place of a session, live or dropped, that is out of order: its entry is above the number
-/// of chunks that have occurred before it. If the place is the number of places, then a new chunk of
-/// the session occurs nowhere in its recipe.
+/// The first place of a session, live or dropped, that is out of order: its entry is above the
+/// number of chunks that have occurred before it. If the place is the number of places, then a new
+/// chunk of the session occurs nowhere in its recipe.
 pub(crate) fn order_flaw(book: &Book) -> Option<Damage>
     requires recipes { recipe_damage [] 0 book.now.sessions ≡ None }
     ensures none { result ≡ None → AreInOrder book.now }
