@@ -1,3 +1,3 @@
-//! A look at all that a store keeps.
+//! What an audit looks at in the files of a store that opens.
 
 mod order;
