@@ -22,3 +22,5 @@ mod OpeningLemmas
 mod PlanLemmas
 -- the parts of an ingest, put together
 mod Runs
+-- the marks of containers of files that open
+mod AuditMarks

@@ -10,3 +10,5 @@ pub mod Ingests
 pub mod Offering
 -- what a plan shows of an input
 pub mod Plans
+-- the marks of containers as an audit reads them
+pub mod AuditMarks

@@ -1,0 +1,3 @@
+//! What an audit looks at in the files of a store that opens.
+
+mod marks;
