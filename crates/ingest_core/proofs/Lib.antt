@@ -24,3 +24,5 @@ mod PlanLemmas
 mod Runs
 -- the marks of containers of files that open
 mod AuditMarks
+-- a batch of chunks in one text
+mod AuditChunks

@@ -12,3 +12,5 @@ pub mod Offering
 pub mod Plans
 -- the marks of containers as an audit reads them
 pub mod AuditMarks
+-- the chunks of a store as an audit reads them
+pub mod AuditChunks
