@@ -1,6 +1,6 @@
 -- A batch of chunks in one text: where they end, what is read of them, and that the text is cut into
 -- them again.
-use Rattle.std.proofs.Common.{◌≡◌, ℕ, zero, suc, ◌+◌, ◌-◌, ◌<◌, ◌≤◌, List, [], ◌∷◌, ◌++◌, take, drop, length, length-append, map, slice_index_or, slice_range, refl, ap, sym, subst, ◌∙◌, arith, IfSome}
+use Rattle.std.proofs.Common.{◌≡◌, ℕ, ◌+◌, ◌-◌, ◌<◌, ◌≤◌, List, [], ◌∷◌, ◌++◌, take, drop, length, length-append, map, slice_index_or, slice_range, refl, ap, sym, subst, ◌∙◌, arith, IfSome}
 use Rattle.std.specs.Prelude.{Option, None, Some}
 use Rattle.std.specs.List.{All, concat}
 use Rattle.std.proofs.Math.Seq.{drop-append_seam, take-append_seam}
@@ -22,7 +22,10 @@ no_chunk = record { length = 0; name = [] }
 
 -- the bytes of a chunk and of those after it
 pub bytes-cons : (chunk : NewChunk) (kept : List NewChunk) → bytes_kept (chunk ∷ kept) ≡ chunk.length + bytes_kept kept
-bytes-cons chunk kept = sum_by-append (λ (chunk : NewChunk). chunk.length) (chunk ∷ []) kept
+bytes-cons chunk kept =
+    let parts : bytes_kept (chunk ∷ kept) ≡ (0 + chunk.length) + bytes_kept kept =
+    sum_by-append (λ (chunk : NewChunk). chunk.length) (chunk ∷ []) kept in
+    omega (arith, parts)
 
 -- the bytes of the chunks from one on
 pub bytes-next : (kept : List NewChunk) (i : ℕ) → i < length kept →

@@ -1,9 +1,7 @@
 use Rattle.std.proofs.Common.{arith, ◌≡◌, ◌∙◌, ℕ, List, ap, length, map, sym, subst, IfSome}
 use Rattle.std.specs.List.{concat}
 use Rattle.ingest_core.proofs.AuditChunks.{batch-named, ends-rise, names-count}
-use Rattle.ingest_core.proofs.FaultLemmas.{err-is}
 use Rattle.ingest_core.specs.AuditChunks.{AreKeptNames, AreStored, IsMisnamed}
-use Rattle.sd_base.specs.Cutting.{chunks_between}
 use Rattle.sd_base.specs.declared.damage.Damage.{Damage}
 use Rattle.ingest_core.proofs.audit.chunks.check_batch.Goals as goal
 
