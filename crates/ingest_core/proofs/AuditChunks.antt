@@ -4,7 +4,7 @@ use Rattle.std.proofs.Common.{◌≡◌, ℕ, ◌+◌, ◌-◌, ◌<◌, ◌≤�
 use Rattle.std.specs.Prelude.{Option, None, Some}
 use Rattle.std.specs.List.{All, concat}
 use Rattle.std.proofs.Math.Seq.{drop-append_seam, take-append_seam}
-use Rattle.std.proofs.lemmas.List.{append_assoc, append-nil, drop_more, take_all, take_more, get_or-map, length-map}
+use Rattle.std.proofs.lemmas.List.{append_assoc, append-nil, drop_more, get_or-drop, length-drop, take_all, take_more, get_or-map, length-map}
 use Rattle.std.proofs.lemmas.List.Elements.{All-head, All-tail}
 use Rattle.std.proofs.lemmas.List.Folds.{concat-append}
 use Rattle.std.proofs.lemmas.List.Sums.{sum_by-append}
@@ -33,6 +33,37 @@ pub bytes-next : (kept : List NewChunk) (i : ℕ) → i < length kept →
 unfolding no_chunk
 bytes-next kept i within = ap bytes_kept (drop_more kept i no_chunk within) ∙ bytes-cons (kept_at kept i) (drop (i + 1) kept)
 
+-- what holds of the lengths of chunks holds of that of one
+pub length-of : (P : ℕ → Type 0) (kept : List NewChunk) (i : ℕ) → i < length kept → All P (lengths_kept kept) → P (kept_at kept i).length
+unfolding no_chunk
+length-of P kept i within all =
+    let count = length-map kept (λ (chunk : NewChunk). chunk.length) in
+    subst P (get_or-map (λ (chunk : NewChunk). chunk.length) kept i no_chunk 0 within) (all i 0 (omega (arith, within, count)))
+
+-- the bytes of a range of chunks
+pub range-none : (kept : List NewChunk) (a b : ℕ) → b ≤ a → bytes_kept (slice_range kept a b) ≡ 0
+range-none kept a b past =
+    let none : b - a ≡ 0 = omega (arith, past) in
+    ap (λ k. bytes_kept (take k (drop a kept))) none
+
+pub range-bytes : (kept : List NewChunk) (a i : ℕ) → a ≤ i → i < length kept →
+    bytes_kept (slice_range kept a (i + 1)) ≡ bytes_kept (slice_range kept a i) + (kept_at kept i).length
+unfolding no_chunk
+range-bytes kept a i from within =
+    let rest = length-drop a kept in
+    let left : (i + 1) - a ≡ (i - a) + 1 = omega (arith, from) in
+    let here : a + (i - a) ≡ i = omega (arith, from) in
+    let last : NewChunk = slice_index_or (drop a kept) (i - a) no_chunk in
+    let one = bytes-cons last [] in
+    let is : last ≡ kept_at kept i = get_or-drop a kept (i - a) no_chunk ∙ ap (λ k. slice_index_or kept k no_chunk) here in
+    let size : last.length ≡ (kept_at kept i).length = ap (λ (chunk : NewChunk). chunk.length) is in
+    let sum : bytes_kept (slice_range kept a (i + 1)) ≡ bytes_kept (slice_range kept a i) + bytes_kept (last ∷ []) =
+    ap (λ k. bytes_kept (take k (drop a kept))) left
+    ∙ ap bytes_kept (take_more (drop a kept) (i - a) no_chunk (omega (arith, from, within, rest)))
+    ∙ sum_by-append (λ (chunk : NewChunk). chunk.length) (slice_range kept a i) (last ∷ []) in
+    let nothing : bytes_kept [] ≡ 0 = refl in
+    omega (arith, sum, one, size, nothing)
+
 -- one end more
 pub ends-next : (kept : List NewChunk) (ends whole : List ℕ) (offset i : ℕ) → i < length kept →
     ends ++ ends_from offset (drop i kept) ≡ whole →
@@ -52,11 +83,11 @@ concat-next stored i within =
     ∙ concat-append (take i stored) (slice_index_or stored i [] ∷ [])
     ∙ ap (λ (last : List ℕ). concat (take i stored) ++ last) (append-nil (slice_index_or stored i []))
 
-count-of : (stored : List (List ℕ)) (kept : List NewChunk) → map length stored ≡ lengths_kept kept → length stored ≡ length kept
+pub count-of : (stored : List (List ℕ)) (kept : List NewChunk) → map length stored ≡ lengths_kept kept → length stored ≡ length kept
 count-of stored kept same =
     sym (length-map stored length) ∙ ap length same ∙ length-map kept (λ chunk. chunk.length)
 
-size-of : (stored : List (List ℕ)) (kept : List NewChunk) (i : ℕ) → map length stored ≡ lengths_kept kept → i < length kept →
+pub size-of : (stored : List (List ℕ)) (kept : List NewChunk) (i : ℕ) → map length stored ≡ lengths_kept kept → i < length kept →
     length (slice_index_or stored i []) ≡ (kept_at kept i).length
 unfolding no_chunk
 size-of stored kept i same within =

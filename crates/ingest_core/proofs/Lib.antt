@@ -26,3 +26,5 @@ mod Runs
 mod AuditMarks
 -- a batch of chunks in one text
 mod AuditChunks
+-- all chunks, a batch after the other
+mod AuditBatches
