@@ -131,9 +131,11 @@ pub ends-rise : (kept : List NewChunk) (offset high : ℕ) → All (λ n. 1 ≤ 
 ends-rise [] offset high some within = tt
 ends-rise (chunk ∷ kept) offset high some within =
     let first : 1 ≤ chunk.length = All-head (λ n. 1 ≤ n) chunk.length (lengths_kept kept) some in
-    let bytes = bytes-cons chunk kept in
-    (omega (arith, first), omega (arith, within, bytes),
-    ends-rise kept (offset + chunk.length) high (All-tail (λ n. 1 ≤ n) chunk.length (lengths_kept kept) some) (omega (arith, within, bytes)))
+    let bytes = bytes-cons chunk kept in (
+      omega (arith, first),
+      omega (arith, within, bytes),
+      ends-rise kept (offset + chunk.length) high (All-tail (λ n. 1 ≤ n) chunk.length (lengths_kept kept) some) (omega (arith, within, bytes)),
+    )
 
 -- a chunk between two others
 range-is : (front chunk rest : List ℕ) (n : ℕ) → length chunk ≡ n → slice_range (front ++ (chunk ++ rest)) (length front) (length front + n) ≡ chunk

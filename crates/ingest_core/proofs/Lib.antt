@@ -28,3 +28,5 @@ mod AuditMarks
 mod AuditChunks
 -- all chunks, a batch after the other
 mod AuditBatches
+-- the chunks that the containers of a store have are read
+mod AuditContainers

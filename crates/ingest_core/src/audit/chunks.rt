@@ -100,7 +100,17 @@ fn check_batches<H: Threads + Sync, N: Namer, F: Shelf>(
     while first < kept.len() {
         let end = batch_end(kept, first);
         let (batch, at) = (&kept[first..end], &spots[first..end]);
-        check_batch(rt, alloc, namer, shelf, generation, batch, at, first as u32, workers)?;
+        check_batch(
+            rt,
+            alloc,
+            namer,
+            shelf,
+            generation,
+            batch,
+            at,
+            first as u32,
+            workers,
+        )?;
         first = end;
     }
     Ok(())
@@ -125,7 +135,9 @@ fn batch_end(kept: &[NewChunk], first: usize) -> usize
 }
 
 // Reads the chunks of a batch, which lie at these spots, and names them by workers. The first whose
-// name is not the one that is kept is damaged. The chunks have their numbers from `number` on.
+// name is not the one that is kept is damaged. The chunks have their numbers from `number` on. The
+// text and the ends hold the chunks of the batch, so what else is asked of a chunk's bytes is asked
+// here.
 fn check_batch<H: Threads + Sync, N: Namer, F: Shelf>(
     rt: &H,
     alloc: Global,
@@ -193,7 +205,14 @@ fn read_text<F: Shelf>(
 {
     let mut text = Vec::new(alloc);
     for (place, chunk) in kept.iter().enumerate() {
-        read_onto(alloc, shelf, generation, spots[place], chunk.length, &mut text)?;
+        read_onto(
+            alloc,
+            shelf,
+            generation,
+            spots[place],
+            chunk.length,
+            &mut text,
+        )?;
     }
     Ok(text)
 }
