@@ -24,3 +24,11 @@ mod OpeningLemmas
 mod PlanLemmas
 -- the parts of an ingest, put together
 mod Runs
+-- the marks of containers of files that open
+mod AuditMarks
+-- a batch of chunks in one text
+mod AuditChunks
+-- all chunks, a batch after the other
+mod AuditBatches
+-- the chunks that the containers of a store have are read
+mod AuditContainers

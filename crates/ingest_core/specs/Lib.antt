@@ -12,3 +12,7 @@ pub mod Offering
 pub mod Plans
 -- what the look of an audit for chunks out of order finds
 pub mod AuditOrder
+-- the marks of containers as an audit reads them
+pub mod AuditMarks
+-- the chunks of a store as an audit reads them
+pub mod AuditChunks
