@@ -55,7 +55,7 @@ apart-from c chunks none k within same =
     absurd cc
 
 -- different chunks, by their indices
-new-different : (chunks : List (List ℕ)) → AreDifferent chunks → HoldsBelow (length chunks) (IsNew chunks)
+pub new-different : (chunks : List (List ℕ)) → AreDifferent chunks → HoldsBelow (length chunks) (IsNew chunks)
 new-different [] different k within = absurd (omega arith)
 new-different (c ∷ chunks) different zero within = λ j below. absurd (omega arith)
 new-different (c ∷ chunks) different (suc k) within = λ j. elim j as (λ n. n < suc k → slice_index_or (c ∷ chunks) n [] ≢ slice_index_or chunks k []) [
