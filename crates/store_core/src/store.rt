@@ -94,6 +94,7 @@ impl<N: Namer> Store<N> {
         ensures refused { OnErr result (OnlyOpens result) }
         ensures kind { (damage : Damage) → result ≡ Err (StoreFault.Damaged damage) → IsOfOpening damage }
         ensures fresh { IfOk result (λ store. (store.offered ≡ []) × (store.sound ≡ true)) }
+        ensures recipes { IfOk result (λ store. recipe_damage [] 0 store.opened.book.sessions ≡ None) }
 
         // If the files hold a state, the store stands for it, with nothing offered.
         ensures stands { (state : State) → IfSome (F.files shelf.old) (λ before. IsLawful state

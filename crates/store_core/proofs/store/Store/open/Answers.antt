@@ -22,6 +22,7 @@ returns-in_err-head g c = record {
   refused = search rules;
   kind = search rules;
   fresh = search rules;
+  recipes = search rules;
   stands = search rules;
   reads = reads-as (fault-passed c.in_err-head.field-0.0 c.from_residual.result c.from_residual.ensures.1) c.in_err-head.ensures.reads;
 }
@@ -39,6 +40,7 @@ returns-in_err-book g c = record {
   refused = search rules;
   kind = search rules;
   fresh = search rules;
+  recipes = search rules;
   stands = search rules;
   reads = reads-then c.in_ok-head.ensures.reads
       (reads-as (fault-passed c.in_err-book.field-0.0 c.from_residual-in_err-book.result c.from_residual-in_err-book.ensures.1) c.in_err-book.ensures.reads);
@@ -62,6 +64,7 @@ returns-in_err-check_containers g c = record {
   refused = search rules;
   kind = search rules;
   fresh = search rules;
+  recipes = search rules;
   stands = search rules;
   reads = reads-then (reads-then c.in_ok-head.ensures.reads c.in_ok-book.ensures.reads)
       (reads-as (fault-passed c.in_err-check_containers.field-0.0 c.from_residual-in_err-check_containers.result c.from_residual-in_err-check_containers.ensures.1) c.in_err-check_containers.ensures.reads);
@@ -102,6 +105,7 @@ returns g c = record {
   refused = search rules;
   kind = search rules;
   fresh = search rules;
+  recipes = search rules;
   stands = λ state.
       let namer = g.met.N.Namer g.world.𝓛 g.world.𝓜 g.world.𝓡 ((λ s x. x), (λ x. x), (λ x. x), λ x. x) in
       let told = g.F.Shelf.files c.args.shelf.now in
@@ -122,6 +126,7 @@ returns-in_err-lengths g c = record {
   refused = search rules;
   kind = search rules;
   fresh = search rules;
+  recipes = search rules;
   stands = search rules;
   reads = reads-as (λ is. absurd (memory-unfailed c.from_residual-in_err-lengths.result c.from_residual-in_err-lengths.ensures.1 is)) (reads-then c.in_ok-head.ensures.reads c.in_ok-book.ensures.reads);
 }
@@ -134,6 +139,7 @@ returns-in_err-opened_store g c = record {
   refused = search rules;
   kind = search rules;
   fresh = search rules;
+  recipes = search rules;
   stands = search rules;
   reads = reads-as (λ is. absurd (memory-unfailed c.from_residual-in_err-opened_store.result c.from_residual-in_err-opened_store.ensures.1 is)) (reads-then (reads-then c.in_ok-head.ensures.reads c.in_ok-book.ensures.reads) c.in_ok-check_containers.ensures.reads);
 }
