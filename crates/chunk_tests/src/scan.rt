@@ -16,11 +16,13 @@ fn text_of_ones(ones: &[usize]) -> [u8; 300] {
     text
 }
 
-// Scans a range of such a text, if it is one and the map has a bit for each position.
-fn scan(params: &Params, text: &[u8; 300], from: u32, to: u32, map: &mut PlainMap) {
+// Scans a range of such a text. Returns whether it is one and the map has a bit for each position.
+fn scan(params: &Params, text: &[u8; 300], from: u32, to: u32, map: &mut PlainMap) -> bool {
     if from <= to && to <= 300 && map.bits() == 301 {
         scan_range(&Tables::new(params), params, text, from, to, map);
+        return true;
     }
+    false
 }
 
 // The candidates of such a text between two positions, found in ranges of `step` positions.
@@ -42,7 +44,9 @@ fn candidates(
     let mut at = from;
     for _ in 0..300u32 {
         let end = at.saturating_add(step).min(to);
-        scan(&params, &text, at, end, &mut map);
+        if !scan(&params, &text, at, end, &mut map) {
+            return None;
+        }
         at = end;
     }
     Some(map)

@@ -7,7 +7,7 @@ use std::sync::atomic::AtomicU64;
 use std::sync::atomic::Ordering::SeqCst;
 use std::test::Fail;
 
-/// Standard input that fails so many times with one kind of error and then has `ab`. The next read
+/// Standard input that fails so many times with one kind of error and then has `abc`. The next read
 /// is at the end, and those after it have more bytes, as a terminal may. It counts its reads.
 #[derive(Clone, Copy)]
 struct Keyboard<'a> {
@@ -25,14 +25,14 @@ impl Read for Keyboard<'_> {
         if number - self.failures == 1 {
             return Ok(0);
         }
-        let mut rest = b"ab".as_slice();
+        let mut rest = b"abc".as_slice();
         rest.read(buf)
     }
 }
 
 impl BufRead for Keyboard<'_> {
     fn fill_buf(&mut self) -> io::Result<&[u8]> {
-        Ok(b"ab")
+        Ok(b"abc")
     }
 
     fn consume(&mut self, _amount: usize) {}
@@ -63,14 +63,14 @@ fn reads(kind: ErrorKind, failures: u64, returned: Result<usize, EdgeFault>, cal
         failures,
         reads: &reads,
     });
-    let mut into = [0u8; 3];
+    let mut into = [0u8; 4];
     source.read(&mut into) == returned && reads.load(SeqCst) == calls
 }
 
 /// The error, how often it comes, what a read returns then, and after how many calls.
 static READS: [(ErrorKind, u64, Result<usize, EdgeFault>, u64); 7] = [
-    (ErrorKind::Interrupted, 1, Ok(2), 2),
-    (ErrorKind::Interrupted, 64, Ok(2), 65),
+    (ErrorKind::Interrupted, 1, Ok(3), 2),
+    (ErrorKind::Interrupted, 64, Ok(3), 65),
     (ErrorKind::Interrupted, 65, Err(EdgeFault::Failed), 65),
     (ErrorKind::WouldBlock, 1, Err(EdgeFault::Failed), 1),
     (ErrorKind::IsADirectory, 1, Err(EdgeFault::Failed), 1),
@@ -95,7 +95,7 @@ fn the_end_is_read_once(rt: HostRuntime) -> Result<(), Fail> {
         reads: &reads,
     });
     let bytes = read_all(rt.alloc(), &mut source, 9)?;
-    assert!(rt; bytes.as_slice() == b"ab".as_slice() && reads.load(SeqCst) == 2);
+    assert!(rt; bytes.as_slice() == b"abc".as_slice() && reads.load(SeqCst) == 2);
     Ok(())
 }
 
