@@ -17,13 +17,15 @@ ghost use Rattle.store_core.specs.Shelves.{OnlyReads};
 use chunk_names::{Namer, name_all};
 use container_pack::{Spot, places, read_chunk};
 use edge_traits::{EdgeFault, Shelf};
-use sd_base::{Damage, MAX_CHUNK_LEN, NewChunk, OpenGate, OutOfMemory};
+use sd_base::{Damage, MAX_CHUNK_LEN, MAX_INPUT, NewChunk, OpenGate, OutOfMemory};
 use std::alloc::Global;
 use std::thread::Threads;
 use store_core::StoreFault;
 
 // The most bytes of a batch: eight of the longest chunks.
 const MAX_BATCH: u32 = 8 * MAX_CHUNK_LEN;
+
+const _: () = prove!(MAX_BATCH <= MAX_INPUT);
 
 /// Reads all chunks of a generation and names them by workers, a batch of whole chunks at a time. The
 /// first chunk whose name is not the one that is kept is damaged.
