@@ -10,3 +10,5 @@ pub mod Ingests
 pub mod Offering
 -- what a plan shows of an input
 pub mod Plans
+-- what an audit keeps of the cuts of chunks, and what it finds by that
+pub mod AuditCuts

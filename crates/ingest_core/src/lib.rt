@@ -7,6 +7,7 @@
 //! maps of `candidate_map`, and finds leaders by `shard_plan`. All rules here are this project's own.
 #![tactic(auto)]
 
+mod audit;
 mod cuts;
 mod fault;
 mod leaders;
