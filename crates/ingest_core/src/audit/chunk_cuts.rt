@@ -1,5 +1,5 @@
 //! What an audit keeps of the cuts of a stored chunk.
-ghost use Rattle.std.specs.Prelude.{◌≡◌, ◌↔◌, IsTrue};
+ghost use Rattle.std.specs.Prelude.{◌≡◌, ◌↔◌, ◌%◌, ◌^◌, ◌==◌, IsTrue};
 ghost use Rattle.ingest_core.specs.AuditCuts.{AreCutsOf, HasNoCandidate};
 ghost use Rattle.sd_base.specs.Cuttings.{MayBeFollowed};
 ghost use Rattle.sd_base.specs.Params.{numbers_of};

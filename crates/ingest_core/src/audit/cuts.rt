@@ -1,7 +1,7 @@
 //! Whether the sessions of a book are cut by the parameters.
-ghost use Rattle.std.specs.Prelude.{◌≡◌, ◌<◌, ◌≤◌, ℕ, IfSome, List, None, [], length};
+ghost use Rattle.std.specs.Prelude.{◌≡◌, ◌<◌, ◌^◌, ℕ, IfSome, List, None, [], length};
 ghost use Rattle.std.specs.List.{All};
-ghost use Rattle.ingest_core.specs.AuditCuts.{AreCutsOfAll, IsFirstNotCut, PassesAt};
+ghost use Rattle.ingest_core.specs.AuditCuts.{AllPass, AreCutsOfAll, IsFirstNotCut, IsFirstNotPassed, PassesAt};
 ghost use Rattle.sd_base.specs.Books.{chunks_in, recipe_damage};
 ghost use Rattle.sd_base.specs.CuttingLaws.{AreFilled};
 ghost use Rattle.sd_base.specs.Firsts.{HoldsBelow, IsFirstFailing};
@@ -10,7 +10,7 @@ ghost use Rattle.sd_base.specs.Parameters.{IsValid};
 ghost use Rattle.sd_base.specs.declared.raw_params.RawParams.{RawParams};
 
 use crate::audit::chunk_cuts::ChunkCuts;
-use sd_base::{Damage, MAX_PLACES};
+use sd_base::Damage;
 use session_book::Book;
 
 /// The first place of the sessions of a book, dropped ones too, whose chunk is not the one that the
