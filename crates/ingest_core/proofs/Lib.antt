@@ -22,3 +22,5 @@ mod OpeningLemmas
 mod PlanLemmas
 -- the parts of an ingest, put together
 mod Runs
+-- the windows of a chunk, and its candidates before a position
+mod WindowLemmas
