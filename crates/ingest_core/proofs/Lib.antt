@@ -24,3 +24,5 @@ mod PlanLemmas
 mod Runs
 -- the windows of a chunk, and its candidates before a position
 mod WindowLemmas
+-- the places of sessions, by what is kept of the cuts of chunks
+mod SessionCuts
