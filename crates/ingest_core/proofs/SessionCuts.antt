@@ -1,5 +1,5 @@
 -- The places of the sessions of a book, by what is kept of the cuts of its chunks.
-use Rattle.std.proofs.Common.{◌≡◌, ◌↔◌, ℕ, zero, suc, ◌+◌, ◌<◌, ◌≤◌, List, [], ◌∷◌, length, map, get_or, slice_index_or, Option, Some, None, IfSome, refl, sym, ap, subst, ◌∙◌, arith}
+use Rattle.std.proofs.Common.{◌≡◌, ◌↔◌, ℕ, zero, suc, ◌<◌, ◌≤◌, List, [], ◌∷◌, length, map, slice_index_or, Some, None, refl, sym, ap, subst, arith}
 use Rattle.std.specs.List.{All, slice_get}
 use Rattle.std.specs.Option.{option_map}
 use Rattle.std.proofs.lemmas.Grind.{get_or_default_zero}
@@ -7,9 +7,9 @@ use Rattle.std.proofs.lemmas.List.{get_or-map, length-map}
 use Rattle.std.proofs.lemmas.List.Elements.{All-get_or, All-map}
 use Rattle.sd_base.specs.Books.{BookState, chunks_in, recipe_damage}
 use Rattle.sd_base.specs.CuttingLaws.{AreFilled}
-use Rattle.sd_base.specs.Cuttings.{FollowsTheRule, HasNoCutInside, IsOfTheCutting, MayBeFollowed}
-use Rattle.sd_base.specs.Firsts.{HoldsBelow, IsFirstFailing}
-use Rattle.sd_base.specs.Flaws.{AreCut, IsCutAt, chunks_of_session, places_of_session, recipe_in_book}
+use Rattle.sd_base.specs.Cuttings.{FollowsTheRule, IsOfTheCutting}
+use Rattle.sd_base.specs.Firsts.{HoldsBelow}
+use Rattle.sd_base.specs.Flaws.{AreCut, IsCutAt, places_of_session, recipe_in_book}
 use Rattle.sd_base.specs.Parameters.{IsValid}
 use Rattle.sd_base.specs.declared.damage.Damage.{Damage}
 use Rattle.sd_base.specs.declared.raw_params.RawParams.{RawParams}
