@@ -8,5 +8,5 @@ returns c params chunks valid filled kept =
     let cuts = c.args.cuts.now in (
       λ none. all-cut params chunks cuts valid filled kept book c.requires.recipes c.requires.one_each (c.first_not_passed.ensures.all none),
       IfSome_then c.first_not_passed.result c.first_not_passed.ensures.first
-      (first-not_cut params chunks cuts valid filled kept book c.requires.recipes c.requires.one_each),
+          (first-not_cut params chunks cuts valid filled kept book c.requires.recipes c.requires.one_each),
     )
