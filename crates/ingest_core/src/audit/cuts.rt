@@ -1,11 +1,11 @@
 //! Whether the sessions of a book are cut by the parameters.
 ghost use Rattle.std.specs.Prelude.{◌≡◌, ◌<◌, ◌^◌, ℕ, IfSome, List, None, [], length};
 ghost use Rattle.std.specs.List.{All};
-ghost use Rattle.ingest_core.specs.AuditCuts.{AllPass, AreCutsOfAll, IsFirstNotCut, IsFirstNotPassed, PassesAt};
+ghost use Rattle.ingest_core.specs.AuditCuts.{AllPass, AreCutsOfAll, IsFirstNotCut, IsFirstNotPassed, PassesAt, PassesIn};
 ghost use Rattle.sd_base.specs.Books.{chunks_in, recipe_damage};
 ghost use Rattle.sd_base.specs.CuttingLaws.{AreFilled};
 ghost use Rattle.sd_base.specs.Firsts.{HoldsBelow, IsFirstFailing};
-ghost use Rattle.sd_base.specs.Flaws.{AreCut, places_of_session, recipe_in_book};
+ghost use Rattle.sd_base.specs.Flaws.{AreCut, places_of_session};
 ghost use Rattle.sd_base.specs.Parameters.{IsValid};
 ghost use Rattle.sd_base.specs.declared.raw_params.RawParams.{RawParams};
 
@@ -46,9 +46,9 @@ fn place_of_session(book: &Book, cuts: &[ChunkCuts], session: u32) -> Option<u32
     requires recipes { recipe_damage [] 0 book.now.sessions ≡ None }
     requires one_each { length cuts.now ≡ length (chunks_in book.now.sessions) }
     ensures all { result ≡ None
-        → HoldsBelow (places_of_session book.now session) (PassesAt cuts.now (recipe_in_book book.now session)) }
+        → HoldsBelow (places_of_session book.now session) (PassesIn cuts.now book.now session) }
     ensures first { IfSome result (λ place.
-        IsFirstFailing (places_of_session book.now session) (PassesAt cuts.now (recipe_in_book book.now session)) place) }
+        IsFirstFailing (places_of_session book.now session) (PassesIn cuts.now book.now session) place) }
 {
     let Some(entry) = book.session(session) else {
         return None;
