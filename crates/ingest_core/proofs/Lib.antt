@@ -32,3 +32,7 @@ mod AuditChunks
 mod AuditBatches
 -- the chunks that the containers of a store have are read
 mod AuditContainers
+-- the windows of a chunk, and its candidates before a position
+mod WindowLemmas
+-- the places of sessions, by what is kept of the cuts of chunks
+mod SessionCuts

@@ -16,3 +16,5 @@ pub mod AuditOrder
 pub mod AuditMarks
 -- the chunks of a store as an audit reads them
 pub mod AuditChunks
+-- what an audit keeps of the cuts of chunks, and what it finds by that
+pub mod AuditCuts
