@@ -19,7 +19,7 @@ use Rattle.sd_base.proofs.Cuttings.{follows-of_cutting}
 use Rattle.sd_base.proofs.Firsts.{below-same, first-same}
 use Rattle.store_core.proofs.RestoreLemmas.{recipe-below, recipe_in}
 use Rattle.ingest_core.specs.AuditCuts.{AllPass, AreCutsOf, AreCutsOfAll, IsFirstNotCut, IsFirstNotPassed, PassesAt, PassesIn, cuts_at}
-use Rattle.ingest_core.specs.declared.audit.chunk_cuts.ChunkCuts.{ChunkCuts}
+use Rattle.ingest_core.specs.declared.auditing.chunk_cuts.ChunkCuts.{ChunkCuts}
 
 abbrev RecipeOf : List Session → ℕ → List ℕ
 RecipeOf sessions k = slice_index_or (map (λ (s : Session). s.entry.recipe) sessions) k []

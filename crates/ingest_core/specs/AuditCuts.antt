@@ -1,6 +1,6 @@
 -- What an audit keeps of the cuts of stored chunks, and what it finds of the sessions by that.
 use Rattle.std.specs.Prelude.{◌≡◌, ◌↔◌, ℕ, ◌+◌, ◌<◌, ◌≤◌, IsTrue, false, List, [], length, slice_index_or}
-use Rattle.ingest_core.specs.declared.audit.chunk_cuts.ChunkCuts.{ChunkCuts}
+use Rattle.ingest_core.specs.declared.auditing.chunk_cuts.ChunkCuts.{ChunkCuts}
 use Rattle.sd_base.specs.Books.{BookState}
 use Rattle.sd_base.specs.Cutting.{IsCandidate}
 use Rattle.sd_base.specs.Cuttings.{HasNoCutInside, MayBeFollowed}

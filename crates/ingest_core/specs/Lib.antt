@@ -18,3 +18,5 @@ pub mod AuditMarks
 pub mod AuditChunks
 -- what an audit keeps of the cuts of chunks, and what it finds by that
 pub mod AuditCuts
+-- what an audit returns
+pub mod Auditing

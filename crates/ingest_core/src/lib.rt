@@ -7,7 +7,7 @@
 //! maps of `candidate_map`, and finds leaders by `shard_plan`. All rules here are this project's own.
 #![tactic(auto)]
 
-mod audit;
+mod auditing;
 mod cuts;
 mod fault;
 mod leaders;
@@ -20,6 +20,7 @@ mod session;
 mod summary;
 mod taking_in;
 
+pub use auditing::{Audited, audit};
 pub use cuts::cuts_of_text;
 pub use fault::IngestFault;
 pub use line::Line;

@@ -1,0 +1,263 @@
+//! The names of the chunks of a store, from their bytes.
+ghost use Rattle.std.specs.Prelude.{◌≡◌, ◌≤◌, ◌<◌, ◌+◌, ℕ, List, ◌++◌, length, map, take, drop, vec_len, IfOk, IfSome, OnOk, OnErr, MatchOption};
+ghost use Rattle.std.specs.List.{All, concat, slice_range};
+ghost use Rattle.edge_traits.specs.Shelf.{content};
+ghost use Rattle.ingest_core.specs.AuditChunks.{AreKeptNames, AreStored, IsMisnamed, bytes_kept, ends_from, lengths_kept};
+ghost use Rattle.ingest_core.specs.declared.auditing.chunks.TheConstants.{MAX_BATCH};
+ghost use Rattle.sd_base.specs.Books.{chunks_in};
+ghost use Rattle.sd_base.specs.Commands.{AreWorkers};
+ghost use Rattle.sd_base.specs.Flaws.{AreNamed, HaveChunks, IsChunkFlaw};
+ghost use Rattle.sd_base.specs.Opening.{Opened};
+ghost use Rattle.sd_base.specs.declared.damage.Damage.{Damage};
+ghost use Rattle.sd_base.specs.declared.file.File.TheVariants.{Container};
+ghost use Rattle.sd_base.specs.declared.limits.TheConstants.{MAX_CHUNK_LEN, MAX_CHUNKS, MAX_INPUT};
+ghost use Rattle.store_core.specs.Containers.{OnlyFinds};
+ghost use Rattle.store_core.specs.Shelves.{OnlyReads};
+
+use chunk_names::{Namer, name_all};
+use container_pack::{Spot, places, read_chunk};
+use edge_traits::{EdgeFault, Shelf};
+use sd_base::{Damage, MAX_CHUNK_LEN, MAX_INPUT, NewChunk, OpenGate, OutOfMemory};
+use std::alloc::Global;
+use std::thread::Threads;
+use store_core::StoreFault;
+
+// The most bytes of a batch: eight of the longest chunks.
+const MAX_BATCH: u32 = 8 * MAX_CHUNK_LEN;
+
+const _: () = prove!(MAX_BATCH <= MAX_INPUT);
+
+/// Reads all chunks of a generation and names them by workers, a batch of whole chunks at a time. The
+/// first chunk whose name is not the one that is kept is damaged.
+pub(crate) fn check_chunks<H: Threads + Sync, N: Namer, F: Shelf>(
+    rt: &H,
+    alloc: Global,
+    namer: &N,
+    shelf: &mut F,
+    generation: u32,
+    kept: &[NewChunk],
+    workers: u32,
+) -> Result<(), StoreFault>
+    requires none_empty { All (λ n. 1 ≤ n) (lengths_kept kept.now) }
+    requires bounded { All (λ n. n ≤ MAX_CHUNK_LEN) (lengths_kept kept.now) }
+    requires within_limit { length kept.now ≤ MAX_CHUNKS }
+    requires workers { AreWorkers workers }
+
+    ensures named { (opened : Opened) (chunks : List (List ℕ)) → opened.head.generation ≡ generation
+        → chunks_in opened.book.sessions ≡ kept.now → OnOk result (IfSome (F.files shelf.old) (λ files.
+        HaveChunks files opened chunks → AreNamed N.name_of opened.book chunks)) }
+    ensures damaged { (opened : Opened) (chunks : List (List ℕ)) → opened.head.generation ≡ generation
+        → chunks_in opened.book.sessions ≡ kept.now
+        → (damage : Damage) → result ≡ Err (StoreFault.Damaged damage) → IfSome (F.files shelf.old) (λ files.
+        HaveChunks files opened chunks → IsChunkFlaw N.name_of opened chunks damage) }
+    ensures refused { OnErr result (OnlyFinds result) }
+
+    ensures reads { OnlyReads (result ≡ Err StoreFault.ShelfFault) F.files F.loose F.faults F.faultless
+        shelf.old shelf.new }
+{
+    let lengths = lengths_of(alloc, kept)?;
+    let spots = places(alloc, &lengths)?;
+    check_batches(rt, alloc, namer, shelf, generation, kept, &spots, workers)
+}
+
+// The lengths of chunks.
+fn lengths_of(alloc: Global, kept: &[NewChunk]) -> Result<Vec<u32>, OutOfMemory>
+    ensures lengths { IfOk result (λ lengths. lengths.items ≡ lengths_kept kept.now) }
+{
+    let mut lengths = Vec::with_capacity(alloc, kept.len())?;
+    for chunk in kept {
+        lengths.push(chunk.length)?;
+    }
+    Ok(lengths)
+}
+
+// Looks at the chunks at these spots, batch after batch.
+fn check_batches<H: Threads + Sync, N: Namer, F: Shelf>(
+    rt: &H,
+    alloc: Global,
+    namer: &N,
+    shelf: &mut F,
+    generation: u32,
+    kept: &[NewChunk],
+    spots: &[Spot],
+    workers: u32,
+) -> Result<(), StoreFault>
+    requires none_empty { All (λ n. 1 ≤ n) (lengths_kept kept.now) }
+    requires bounded { All (λ n. n ≤ MAX_CHUNK_LEN) (lengths_kept kept.now) }
+    requires within_limit { length kept.now ≤ MAX_CHUNKS }
+    requires spots { length spots.now ≡ length kept.now }
+    requires workers { AreWorkers workers }
+
+    ensures named { (stored : List (List ℕ)) → OnOk result (IfSome (F.files shelf.old) (λ files.
+        AreStored files generation spots.now kept.now stored → AreKeptNames kept.now (map N.name_of stored))) }
+    ensures damaged { (stored : List (List ℕ)) (damage : Damage) → result ≡ Err (StoreFault.Damaged damage)
+        → IfSome (F.files shelf.old) (λ files. AreStored files generation spots.now kept.now stored
+        → IsMisnamed kept.now (map N.name_of stored) 0 damage) }
+    ensures refused { OnErr result (OnlyFinds result) }
+
+    ensures reads { OnlyReads (result ≡ Err StoreFault.ShelfFault) F.files F.loose F.faults F.faultless
+        shelf.old shelf.new }
+{
+    let mut first = 0;
+    while first < kept.len() {
+        let end = batch_end(kept, first);
+        let (batch, at) = (&kept[first..end], &spots[first..end]);
+        check_batch(
+            rt,
+            alloc,
+            namer,
+            shelf,
+            generation,
+            batch,
+            at,
+            first as u32,
+            workers,
+        )?;
+        first = end;
+    }
+    Ok(())
+}
+
+// Where the batch ends that begins with this chunk: it has as many chunks as it may.
+fn batch_end(kept: &[NewChunk], first: usize) -> usize
+    requires some { first < length kept.now }
+    requires bounded { All (λ n. n ≤ MAX_CHUNK_LEN) (lengths_kept kept.now) }
+    ensures some { first < result }
+    ensures within { result ≤ length kept.now }
+    ensures fits { bytes_kept (slice_range kept.now first result) ≤ MAX_BATCH }
+{
+    let mut bytes = 0;
+    for number in first..kept.len() {
+        bytes += kept[number].length;
+        if bytes > MAX_BATCH {
+            return number;
+        }
+    }
+    kept.len()
+}
+
+// Reads the chunks of a batch, which lie at these spots, and names them by workers. The first whose
+// name is not the one that is kept is damaged. The chunks have their numbers from `number` on. The
+// text and the ends hold the chunks of the batch, so what else is asked of a chunk's bytes is asked
+// here.
+fn check_batch<H: Threads + Sync, N: Namer, F: Shelf>(
+    rt: &H,
+    alloc: Global,
+    namer: &N,
+    shelf: &mut F,
+    generation: u32,
+    kept: &[NewChunk],
+    spots: &[Spot],
+    number: u32,
+    workers: u32,
+) -> Result<(), StoreFault>
+    requires none_empty { All (λ n. 1 ≤ n) (lengths_kept kept.now) }
+    requires fits { bytes_kept kept.now ≤ MAX_INPUT }
+    requires spots { length spots.now ≡ length kept.now }
+    requires numbers { number + length kept.now ≤ MAX_CHUNKS }
+    requires workers { AreWorkers workers }
+
+    ensures named { (stored : List (List ℕ)) → OnOk result (IfSome (F.files shelf.old) (λ files.
+        AreStored files generation spots.now kept.now stored → AreKeptNames kept.now (map N.name_of stored))) }
+    ensures damaged { (stored : List (List ℕ)) (damage : Damage) → result ≡ Err (StoreFault.Damaged damage)
+        → IfSome (F.files shelf.old) (λ files. AreStored files generation spots.now kept.now stored
+        → IsMisnamed kept.now (map N.name_of stored) number damage) }
+    ensures refused { OnErr result (OnlyFinds result) }
+
+    ensures reads { OnlyReads (result ≡ Err StoreFault.ShelfFault) F.files F.loose F.faults F.faultless
+        shelf.old shelf.new }
+{
+    let ends = ends_of(alloc, kept)?;
+    let text = read_text(alloc, shelf, generation, kept, spots)?;
+    let names = name_all(rt, alloc, namer, &text, 0, &ends, workers, 0, &OpenGate)?;
+    match first_misnamed(kept, &names, number) {
+        Some(damage) => Err(StoreFault::Damaged(damage)),
+        None => Ok(()),
+    }
+}
+
+// Where chunks end that follow one another in one text.
+fn ends_of(alloc: Global, kept: &[NewChunk]) -> Result<Vec<u32>, OutOfMemory>
+    requires fits { bytes_kept kept.now ≤ MAX_INPUT }
+    ensures ends { IfOk result (λ ends. ends.items ≡ ends_from 0 kept.now) }
+{
+    let mut ends = Vec::with_capacity(alloc, kept.len())?;
+    let mut offset = 0u32;
+    for chunk in kept {
+        offset += chunk.length;
+        ends.push(offset)?;
+    }
+    Ok(ends)
+}
+
+// The bytes of chunks at their spots, in one text.
+fn read_text<F: Shelf>(
+    alloc: Global,
+    shelf: &mut F,
+    generation: u32,
+    kept: &[NewChunk],
+    spots: &[Spot],
+) -> Result<Vec<u8>, EdgeFault>
+    requires spots { length spots.now ≡ length kept.now }
+    ensures text { (stored : List (List ℕ)) → IfOk result (λ text. IfSome (F.files shelf.old) (λ files.
+        AreStored files generation spots.now kept.now stored → text.items ≡ concat stored)) }
+    ensures size { IfOk result (λ text. length text.items ≡ bytes_kept kept.now) }
+    ensures reads { OnlyReads (result ≡ Err EdgeFault.Failed) F.files F.loose F.faults F.faultless
+        shelf.old shelf.new }
+{
+    let mut text = Vec::new(alloc);
+    for (place, chunk) in kept.iter().enumerate() {
+        read_onto(
+            alloc,
+            shelf,
+            generation,
+            spots[place],
+            chunk.length,
+            &mut text,
+        )?;
+    }
+    Ok(text)
+}
+
+// Reads `size` bytes at a spot to the end of a text. If its file ends before, zeros follow.
+fn read_onto<F: Shelf>(
+    alloc: Global,
+    shelf: &mut F,
+    generation: u32,
+    spot: Spot,
+    size: u32,
+    text: &mut Vec<u8>,
+) -> Result<(), EdgeFault>
+    ensures bytes { OnOk result (IfSome (content (F.files shelf.old) (Container generation spot.container))
+        (λ bytes. length (take size (drop spot.offset bytes)) ≡ size
+        → text.new.items ≡ text.old.items ++ take size (drop spot.offset bytes))) }
+    ensures size { OnOk result (length text.new.items ≡ length text.old.items + size) }
+    ensures reads { OnlyReads (result ≡ Err EdgeFault.Failed) F.files F.loose F.faults F.faultless
+        shelf.old shelf.new }
+{
+    let chunk = read_chunk(alloc, shelf, generation, spot, size)?;
+    text.extend_from_slice(&chunk)?;
+    let missing = size as usize - chunk.len();
+    text.extend_from_slice(&vec![in alloc; 0; missing]?)?;
+    Ok(())
+}
+
+// The first of these names that is not the one that is kept.
+fn first_misnamed(kept: &[NewChunk], names: &[[u8; 32]], number: u32) -> Option<Damage>
+    requires named { length names.now ≡ length kept.now }
+    requires numbers { number + length kept.now ≤ MAX_CHUNKS }
+    ensures first { MatchOption result (AreKeptNames kept.now names.now)
+        (λ damage. IsMisnamed kept.now names.now number damage) }
+{
+    for (place, chunk) in kept.iter().enumerate() {
+        let found = names[place];
+        if found != chunk.name {
+            return Some(Damage::Chunk {
+                number: number + place as u32,
+                kept: chunk.name,
+                found,
+            });
+        }
+    }
+    None
+}
