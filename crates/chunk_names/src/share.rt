@@ -25,9 +25,10 @@ pub(crate) fn name_share<N: Namer>(
     }
 }
 
-// Chunk i of a text.
+/// Chunk `i` of a text whose chunks end at `ends`, in bytes from the start of the text. The first
+/// begins at `start`. It takes no memory.
 #[tactic(auto, using(crate::proofs::Chunks::chunk_inside))]
-fn chunk<'a>(text: &'a [u8], start: u32, ends: &[u32], i: usize) -> &'a [u8]
+pub fn chunk<'a>(text: &'a [u8], start: u32, ends: &[u32], i: usize) -> &'a [u8]
     requires rise { RiseWithin start (length text.now) ends.now }
     requires inside { i < length ends.now }
     ensures chunk { result.now ≡ chunk_at text.now start ends.now i }

@@ -1,7 +1,9 @@
 -- The sizes of containers, chunk by chunk.
-use Rattle.std.proofs.Common.{◌≡◌, ℕ, ◌+◌, ◌<◌, ◌≤◌, List, ◌∷◌, refl}
-use Rattle.std.specs.Prelude.{Option, Some, None}
-use Rattle.std.proofs.lemmas.Bool.{le-leb, lt-leb}
+use Rattle.std.proofs.Common.{◌≡◌, inl, inr, ℕ, ◌+◌, ◌<◌, ◌≤◌, List, [], ◌∷◌, length, true, false, refl, ap, ◌∙◌, arith}
+use Rattle.std.specs.Prelude.{All, Option, Some, None, nat_le}
+use Rattle.std.proofs.lemmas.Bool.{cases_Bool, le-leb, lt-leb}
+use Rattle.container_pack.specs.Spots.{filled_by, filled_on, nothing_filled}
+use Rattle.container_pack.specs.declared.fill.Fill.{Fill}
 use Rattle.sd_base.specs.Packing.{container_sizes, sizes_on}
 use Rattle.sd_base.specs.declared.limits.TheConstants.{CONTAINER_HEADER, MAX_CONTAINER}
 
@@ -21,3 +23,33 @@ sizes-next size n ns full = rw (lt-leb (size + n) MAX_CONTAINER full) refl
 abbrev pub open_count : Option ℕ → ℕ
 open_count None = 0
 open_count (Some size) = 1
+
+filled-fit : (fill : Fill) (n : ℕ) → nat_le (fill.used + n) MAX_CONTAINER ≡ true →
+    filled_by fill n ≡ record { containers = fill.containers; used = fill.used + n }
+filled-fit fill n fits = rw fits refl
+
+filled-next : (fill : Fill) (n : ℕ) → nat_le (fill.used + n) MAX_CONTAINER ≡ false →
+    filled_by fill n ≡ record { containers = fill.containers + 1; used = CONTAINER_HEADER + n }
+filled-next fill n full = rw full refl
+
+-- the containers after chunks of these lengths are as many as their sizes
+fill-counts : (fill : Fill) (ns : List ℕ) →
+    (filled_on fill ns).containers + 1 ≡ fill.containers + length (sizes_on fill.used ns)
+fill-counts fill [] = omega arith
+fill-counts fill (n ∷ ns) = elim (cases_Bool (nat_le (fill.used + n) MAX_CONTAINER)) [
+  | inl fits ↦
+      ap (λ (f : Fill). (filled_on f ns).containers + 1) (filled-fit fill n fits)
+      ∙ rw fits (fill-counts (record { containers = fill.containers; used = fill.used + n }) ns)
+  | inr full ↦
+      let later = fill-counts (record { containers = fill.containers + 1; used = CONTAINER_HEADER + n }) ns in
+      ap (λ (f : Fill). (filled_on f ns).containers + 1) (filled-next fill n full) ∙ rw full (omega (arith, later))
+]
+
+pub sizes-count : (ns : List ℕ) → All (λ n. 1 ≤ n) ns →
+    (filled_on nothing_filled ns).containers ≡ length (container_sizes ns)
+sizes-count [] some = refl
+sizes-count (n ∷ ns) some =
+    let first : 1 ≤ n = some 0 0 (omega arith) in
+    let full = lt-leb (MAX_CONTAINER + n) MAX_CONTAINER (omega (arith, first)) in
+    let later = fill-counts (record { containers = 1; used = CONTAINER_HEADER + n }) ns in
+    ap (λ (f : Fill). (filled_on f ns).containers) (filled-next nothing_filled n full) ∙ omega (arith, later)

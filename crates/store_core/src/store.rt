@@ -95,6 +95,8 @@ impl<N: Namer> Store<N> {
         ensures kind { (damage : Damage) → result ≡ Err (StoreFault.Damaged damage) → IsOfOpening damage }
         ensures fresh { IfOk result (λ store. (store.offered ≡ []) × (store.sound ≡ true)) }
         ensures recipes { IfOk result (λ store. recipe_damage [] 0 store.opened.book.sessions ≡ None) }
+        ensures none_empty { IfOk result (λ store. All (λ n. 1 ≤ n) (chunk_lengths store.opened.book)) }
+        ensures bounded { IfOk result (λ store. All (λ n. n ≤ MAX_CHUNK_LEN) (chunk_lengths store.opened.book)) }
 
         // If the files hold a state, the store stands for it, with nothing offered.
         ensures stands { (state : State) → IfSome (F.files shelf.old) (λ before. IsLawful state

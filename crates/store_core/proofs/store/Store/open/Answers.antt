@@ -1,6 +1,6 @@
 use Rattle.std.proofs.Common.{rules, ◌≤◌, ℕ, List, IfSome, ap, subst, sym, ◌∙◌}
 use Rattle.std.specs.List.{All}
-use Rattle.sd_base.specs.Opening.{OpenAs, needed_sizes}
+use Rattle.sd_base.specs.Opening.{OpenAs, chunk_lengths, needed_sizes}
 use Rattle.sd_base.specs.Packing.{container_sizes}
 use Rattle.sd_base.specs.declared.limits.TheConstants.{MAX_CHUNK_LEN}
 use Rattle.store_core.specs.Containers.{IsFirstShort}
@@ -23,6 +23,8 @@ returns-in_err-head g c = record {
   kind = search rules;
   fresh = search rules;
   recipes = search rules;
+  none_empty = search rules;
+  bounded = search rules;
   stands = search rules;
   reads = reads-as (fault-passed c.in_err-head.field-0.0 c.from_residual.result c.from_residual.ensures.1) c.in_err-head.ensures.reads;
 }
@@ -41,6 +43,8 @@ returns-in_err-book g c = record {
   kind = search rules;
   fresh = search rules;
   recipes = search rules;
+  none_empty = search rules;
+  bounded = search rules;
   stands = search rules;
   reads = reads-then c.in_ok-head.ensures.reads
       (reads-as (fault-passed c.in_err-book.field-0.0 c.from_residual-in_err-book.result c.from_residual-in_err-book.ensures.1) c.in_err-book.ensures.reads);
@@ -65,6 +69,8 @@ returns-in_err-check_containers g c = record {
   kind = search rules;
   fresh = search rules;
   recipes = search rules;
+  none_empty = search rules;
+  bounded = search rules;
   stands = search rules;
   reads = reads-then (reads-then c.in_ok-head.ensures.reads c.in_ok-book.ensures.reads)
       (reads-as (fault-passed c.in_err-check_containers.field-0.0 c.from_residual-in_err-check_containers.result c.from_residual-in_err-check_containers.ensures.1) c.in_err-check_containers.ensures.reads);
@@ -106,6 +112,14 @@ returns g c = record {
   kind = search rules;
   fresh = search rules;
   recipes = search rules;
+  none_empty =
+      let replay = c.in_ok-book.ensures.replayed in
+      subst (λ (s : StoreState). All (λ n. 1 ≤ n) (chunk_lengths s.opened.book)) (sym c.in_ok-opened_store.ensures.opened)
+      (replayed-some c.in_ok-head.head.params.max replay.0 replay.1 c.in_ok-book.book replay.2);
+  bounded =
+      let replay = c.in_ok-book.ensures.replayed in
+      subst (λ (s : StoreState). All (λ n. n ≤ MAX_CHUNK_LEN) (chunk_lengths s.opened.book)) (sym c.in_ok-opened_store.ensures.opened)
+      (replayed-bounded c.in_ok-head.head.params.max replay.0 replay.1 c.in_ok-book.book replay.2);
   stands = λ state.
       let namer = g.met.N.Namer g.world.𝓛 g.world.𝓜 g.world.𝓡 ((λ s x. x), (λ x. x), (λ x. x), λ x. x) in
       let told = g.F.Shelf.files c.args.shelf.now in
@@ -127,6 +141,8 @@ returns-in_err-lengths g c = record {
   kind = search rules;
   fresh = search rules;
   recipes = search rules;
+  none_empty = search rules;
+  bounded = search rules;
   stands = search rules;
   reads = reads-as (λ is. absurd (memory-unfailed c.from_residual-in_err-lengths.result c.from_residual-in_err-lengths.ensures.1 is)) (reads-then c.in_ok-head.ensures.reads c.in_ok-book.ensures.reads);
 }
@@ -140,6 +156,8 @@ returns-in_err-opened_store g c = record {
   kind = search rules;
   fresh = search rules;
   recipes = search rules;
+  none_empty = search rules;
+  bounded = search rules;
   stands = search rules;
   reads = reads-as (λ is. absurd (memory-unfailed c.from_residual-in_err-opened_store.result c.from_residual-in_err-opened_store.ensures.1 is)) (reads-then (reads-then c.in_ok-head.ensures.reads c.in_ok-book.ensures.reads) c.in_ok-check_containers.ensures.reads);
 }
