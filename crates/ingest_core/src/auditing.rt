@@ -3,11 +3,13 @@ ghost use Rattle.std.specs.Prelude.{◌≡◌, Err, IfErr, IfSome};
 ghost use Rattle.ingest_core.specs.Auditing.{AuditsFiles, IsOfAudit};
 ghost use Rattle.store_core.specs.Shelves.{OnlyReads};
 
+mod batch_cuts;
 mod chunk_cuts;
 mod chunks;
 mod cuts;
 mod marks;
 mod order;
+mod rules;
 
 use chunk_names::Namer;
 use edge_traits::Shelf;
