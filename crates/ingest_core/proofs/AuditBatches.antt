@@ -15,7 +15,7 @@ use Rattle.sd_base.specs.declared.file.File.TheVariants.{Container, Head}
 use Rattle.sd_base.specs.declared.record.NewChunk.{NewChunk}
 
 -- an item of a range
-range-at : {X : Type 0} (xs : List X) (a b i : ℕ) (d : X) → i < b - a → slice_index_or (slice_range xs a b) i d ≡ slice_index_or xs (a + i) d
+pub range-at : {X : Type 0} (xs : List X) (a b i : ℕ) (d : X) → i < b - a → slice_index_or (slice_range xs a b) i d ≡ slice_index_or xs (a + i) d
 range-at xs a b i d within = get_or-take (b - a) (drop a xs) i d within ∙ get_or-drop a xs i d
 
 range-map : {X Y : Type 0} (f : X → Y) (xs : List X) (a b : ℕ) → map f (slice_range xs a b) ≡ slice_range (map f xs) a b

@@ -30,8 +30,12 @@ mod AuditMarks
 mod AuditChunks
 -- all chunks, a batch after the other
 mod AuditBatches
+-- what is kept of the cuts of chunks, a batch after the other
+mod BatchCuts
 -- the chunks that the containers of a store have are read
 mod AuditContainers
+-- stored chunks with equal bytes
+mod AuditTwins
 -- the windows of a chunk, and its candidates before a position
 mod WindowLemmas
 -- the places of sessions, by what is kept of the cuts of chunks

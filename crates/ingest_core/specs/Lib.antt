@@ -16,6 +16,8 @@ pub mod AuditOrder
 pub mod AuditMarks
 -- the chunks of a store as an audit reads them
 pub mod AuditChunks
+-- what the look of an audit for equal chunks finds
+pub mod AuditTwins
 -- what an audit keeps of the cuts of chunks, and what it finds by that
 pub mod AuditCuts
 -- what an audit returns

@@ -10,6 +10,7 @@ mod cuts;
 mod marks;
 mod order;
 mod rules;
+mod twins;
 
 use chunk_names::Namer;
 use edge_traits::Shelf;

@@ -1,21 +1,22 @@
-//! The names of the chunks of a store, from their bytes.
+//! The names and the cuts of the chunks of a store, from their bytes.
 ghost use Rattle.std.specs.Prelude.{◌≡◌, ◌≤◌, ◌<◌, ◌+◌, ℕ, List, ◌++◌, length, map, take, drop, vec_len, IfOk, IfSome, OnOk, OnErr, MatchOption};
 ghost use Rattle.std.specs.List.{All, concat, slice_range};
 ghost use Rattle.edge_traits.specs.Shelf.{content};
+ghost use Rattle.ingest_core.specs.AuditCuts.{AreCutsOfAll};
 ghost use Rattle.ingest_core.specs.AuditChunks.{AreKeptNames, AreStored, IsMisnamed, bytes_kept, ends_from, lengths_kept};
 ghost use Rattle.ingest_core.specs.declared.auditing.chunks.TheConstants.{MAX_BATCH};
-ghost use Rattle.sd_base.specs.Books.{chunks_in};
-ghost use Rattle.sd_base.specs.Commands.{AreWorkers};
-ghost use Rattle.sd_base.specs.Flaws.{AreNamed, HaveChunks, IsChunkFlaw};
-ghost use Rattle.sd_base.specs.Opening.{Opened};
+ghost use Rattle.sd_base.specs.Params.{numbers_of};
 ghost use Rattle.sd_base.specs.declared.damage.Damage.{Damage};
 ghost use Rattle.sd_base.specs.declared.file.File.TheVariants.{Container};
 ghost use Rattle.sd_base.specs.declared.limits.TheConstants.{MAX_CHUNK_LEN, MAX_CHUNKS, MAX_INPUT};
 ghost use Rattle.store_core.specs.Containers.{OnlyFinds};
 ghost use Rattle.store_core.specs.Shelves.{OnlyReads};
 
+use crate::auditing::batch_cuts::cuts_of_batch;
+use crate::auditing::chunk_cuts::ChunkCuts;
+use crate::auditing::rules::ChunkRules;
 use chunk_names::{Namer, name_all};
-use container_pack::{Spot, places, read_chunk};
+use container_pack::{Spot, read_chunk};
 use edge_traits::{EdgeFault, Shelf};
 use sd_base::{Damage, MAX_CHUNK_LEN, MAX_INPUT, NewChunk, OpenGate, OutOfMemory};
 use std::alloc::Global;
@@ -27,69 +28,29 @@ const MAX_BATCH: u32 = 8 * MAX_CHUNK_LEN;
 
 const _: () = prove!(MAX_BATCH <= MAX_INPUT);
 
-/// Reads all chunks of a generation and names them by workers, a batch of whole chunks at a time. The
-/// first chunk whose name is not the one that is kept is damaged.
+/// Reads the chunks of a generation at their spots, names them by workers and looks at their cuts,
+/// a batch of whole chunks at a time. The first chunk whose name is not the one that is kept is
+/// damaged. The result is what is kept of the cuts of each chunk.
 pub(crate) fn check_chunks<H: Threads + Sync, N: Namer, F: Shelf>(
     rt: &H,
     alloc: Global,
-    namer: &N,
-    shelf: &mut F,
-    generation: u32,
-    kept: &[NewChunk],
-    workers: u32,
-) -> Result<(), StoreFault>
-    requires none_empty { All (λ n. 1 ≤ n) (lengths_kept kept.now) }
-    requires bounded { All (λ n. n ≤ MAX_CHUNK_LEN) (lengths_kept kept.now) }
-    requires within_limit { length kept.now ≤ MAX_CHUNKS }
-    requires workers { AreWorkers workers }
-
-    ensures named { (opened : Opened) (chunks : List (List ℕ)) → opened.head.generation ≡ generation
-        → chunks_in opened.book.sessions ≡ kept.now → OnOk result (IfSome (F.files shelf.old) (λ files.
-        HaveChunks files opened chunks → AreNamed N.name_of opened.book chunks)) }
-    ensures damaged { (opened : Opened) (chunks : List (List ℕ)) → opened.head.generation ≡ generation
-        → chunks_in opened.book.sessions ≡ kept.now
-        → (damage : Damage) → result ≡ Err (StoreFault.Damaged damage) → IfSome (F.files shelf.old) (λ files.
-        HaveChunks files opened chunks → IsChunkFlaw N.name_of opened chunks damage) }
-    ensures refused { OnErr result (OnlyFinds result) }
-
-    ensures reads { OnlyReads (result ≡ Err StoreFault.ShelfFault) F.files F.loose F.faults F.faultless
-        shelf.old shelf.new }
-{
-    let lengths = lengths_of(alloc, kept)?;
-    let spots = places(alloc, &lengths)?;
-    check_batches(rt, alloc, namer, shelf, generation, kept, &spots, workers)
-}
-
-// The lengths of chunks.
-fn lengths_of(alloc: Global, kept: &[NewChunk]) -> Result<Vec<u32>, OutOfMemory>
-    ensures lengths { IfOk result (λ lengths. lengths.items ≡ lengths_kept kept.now) }
-{
-    let mut lengths = Vec::with_capacity(alloc, kept.len())?;
-    for chunk in kept {
-        lengths.push(chunk.length)?;
-    }
-    Ok(lengths)
-}
-
-// Looks at the chunks at these spots, batch after batch.
-fn check_batches<H: Threads + Sync, N: Namer, F: Shelf>(
-    rt: &H,
-    alloc: Global,
-    namer: &N,
+    rules: &ChunkRules<N>,
     shelf: &mut F,
     generation: u32,
     kept: &[NewChunk],
     spots: &[Spot],
-    workers: u32,
-) -> Result<(), StoreFault>
+) -> Result<Vec<ChunkCuts>, StoreFault>
     requires none_empty { All (λ n. 1 ≤ n) (lengths_kept kept.now) }
     requires bounded { All (λ n. n ≤ MAX_CHUNK_LEN) (lengths_kept kept.now) }
     requires within_limit { length kept.now ≤ MAX_CHUNKS }
     requires spots { length spots.now ≡ length kept.now }
-    requires workers { AreWorkers workers }
 
+    ensures one_each { IfOk result (λ cuts. length cuts.items ≡ length kept.now) }
     ensures named { (stored : List (List ℕ)) → OnOk result (IfSome (F.files shelf.old) (λ files.
         AreStored files generation spots.now kept.now stored → AreKeptNames kept.now (map N.name_of stored))) }
+    ensures cut { (stored : List (List ℕ)) → IfOk result (λ cuts. IfSome (F.files shelf.old) (λ files.
+        AreStored files generation spots.now kept.now stored
+        → AreCutsOfAll (numbers_of rules.now.params) stored cuts.items)) }
     ensures damaged { (stored : List (List ℕ)) (damage : Damage) → result ≡ Err (StoreFault.Damaged damage)
         → IfSome (F.files shelf.old) (λ files. AreStored files generation spots.now kept.now stored
         → IsMisnamed kept.now (map N.name_of stored) 0 damage) }
@@ -98,24 +59,16 @@ fn check_batches<H: Threads + Sync, N: Namer, F: Shelf>(
     ensures reads { OnlyReads (result ≡ Err StoreFault.ShelfFault) F.files F.loose F.faults F.faultless
         shelf.old shelf.new }
 {
+    let mut cuts = Vec::with_capacity(alloc, kept.len())?;
     let mut first = 0;
     while first < kept.len() {
         let end = batch_end(kept, first);
         let (batch, at) = (&kept[first..end], &spots[first..end]);
-        check_batch(
-            rt,
-            alloc,
-            namer,
-            shelf,
-            generation,
-            batch,
-            at,
-            first as u32,
-            workers,
-        )?;
+        let found = check_batch(rt, alloc, rules, shelf, generation, batch, at, first as u32)?;
+        cuts.extend_from_slice(&found)?;
         first = end;
     }
-    Ok(())
+    Ok(cuts)
 }
 
 // Where the batch ends that begins with this chunk: it has as many chunks as it may.
@@ -136,29 +89,30 @@ fn batch_end(kept: &[NewChunk], first: usize) -> usize
     kept.len()
 }
 
-// Reads the chunks of a batch, which lie at these spots, and names them by workers. The first whose
-// name is not the one that is kept is damaged. The chunks have their numbers from `number` on. The
-// text and the ends hold the chunks of the batch, so what else is asked of a chunk's bytes is asked
-// here.
+// Reads the chunks of a batch, which lie at these spots, names them by workers and looks at their
+// cuts. The first whose name is not the one that is kept is damaged. The chunks have their numbers
+// from `number` on.
 fn check_batch<H: Threads + Sync, N: Namer, F: Shelf>(
     rt: &H,
     alloc: Global,
-    namer: &N,
+    rules: &ChunkRules<N>,
     shelf: &mut F,
     generation: u32,
     kept: &[NewChunk],
     spots: &[Spot],
     number: u32,
-    workers: u32,
-) -> Result<(), StoreFault>
+) -> Result<Vec<ChunkCuts>, StoreFault>
     requires none_empty { All (λ n. 1 ≤ n) (lengths_kept kept.now) }
     requires fits { bytes_kept kept.now ≤ MAX_INPUT }
     requires spots { length spots.now ≡ length kept.now }
     requires numbers { number + length kept.now ≤ MAX_CHUNKS }
-    requires workers { AreWorkers workers }
 
+    ensures one_each { IfOk result (λ cuts. length cuts.items ≡ length kept.now) }
     ensures named { (stored : List (List ℕ)) → OnOk result (IfSome (F.files shelf.old) (λ files.
         AreStored files generation spots.now kept.now stored → AreKeptNames kept.now (map N.name_of stored))) }
+    ensures cut { (stored : List (List ℕ)) → IfOk result (λ cuts. IfSome (F.files shelf.old) (λ files.
+        AreStored files generation spots.now kept.now stored
+        → AreCutsOfAll (numbers_of rules.now.params) stored cuts.items)) }
     ensures damaged { (stored : List (List ℕ)) (damage : Damage) → result ≡ Err (StoreFault.Damaged damage)
         → IfSome (F.files shelf.old) (λ files. AreStored files generation spots.now kept.now stored
         → IsMisnamed kept.now (map N.name_of stored) number damage) }
@@ -169,11 +123,22 @@ fn check_batch<H: Threads + Sync, N: Namer, F: Shelf>(
 {
     let ends = ends_of(alloc, kept)?;
     let text = read_text(alloc, shelf, generation, kept, spots)?;
-    let names = name_all(rt, alloc, namer, &text, 0, &ends, workers, 0, &OpenGate)?;
-    match first_misnamed(kept, &names, number) {
-        Some(damage) => Err(StoreFault::Damaged(damage)),
-        None => Ok(()),
+    let names = name_all(rt, alloc, rules.namer, &text, 0, &ends, rules.workers, 0, &OpenGate)?;
+    if let Some(damage) = first_misnamed(kept, &names, number) {
+        return Err(StoreFault::Damaged(damage));
     }
+    Ok(cuts_of_batch(rt, alloc, rules, &text, &ends)?)
+}
+
+/// The lengths of chunks. Fails only if memory runs out.
+pub(crate) fn lengths_of(alloc: Global, kept: &[NewChunk]) -> Result<Vec<u32>, OutOfMemory>
+    ensures lengths { IfOk result (λ lengths. lengths.items ≡ lengths_kept kept.now) }
+{
+    let mut lengths = Vec::with_capacity(alloc, kept.len())?;
+    for chunk in kept {
+        lengths.push(chunk.length)?;
+    }
+    Ok(lengths)
 }
 
 // Where chunks end that follow one another in one text.
