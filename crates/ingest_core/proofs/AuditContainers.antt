@@ -37,11 +37,6 @@ pub spots-count : (kept : List NewChunk) (spots : List Spot) → spots ≡ spots
 spots-count kept spots are =
     ap length are ∙ spots-on nothing_filled (lengths_kept kept) ∙ length-map kept (λ (chunk : NewChunk). chunk.length)
 
--- what a success says, it says if more follows from it
-pub ok-then : {T E : Type 0} (r : Result T E) (A B : Type 0) → (A → B) → OnOk r A → OnOk r B
-ok-then (Ok x) A B then holds = then holds
-ok-then (Err e) A B then holds = tt
-
 module _ (opened : Opened) (chunks : List (List ℕ)) where
   abbrev book_chunks : List NewChunk
   book_chunks = chunks_in opened.book.sessions
@@ -71,13 +66,13 @@ module _ (opened : Opened) (chunks : List (List ℕ)) where
     name-is : (i : ℕ) → i < length chunks → slice_index_or (map name_of chunks) i [] ≡ name_of (slice_index_or chunks i [])
     name-is i within = get_or-map name_of chunks i [] [] within
 
-    named-here : (files : File → List ℕ) → HaveChunks files opened chunks → AreKeptNames book_chunks (map name_of chunks) →
+    pub named-here : (files : File → List ℕ) → HaveChunks files opened chunks → AreKeptNames book_chunks (map name_of chunks) →
         AreNamed name_of opened.book chunks
     named-here files have are i within =
         let count = count-of chunks book_chunks have.lengths in
         sym (name-is i within) ∙ are i (omega (arith, within, count))
 
-    flaw-here : (files : File → List ℕ) (damage : Damage) → HaveChunks files opened chunks →
+    pub flaw-here : (files : File → List ℕ) (damage : Damage) → HaveChunks files opened chunks →
         IsMisnamed book_chunks (map name_of chunks) 0 damage → IsChunkFlaw name_of opened chunks damage
     flaw-here files damage have found =
         let count = count-of chunks book_chunks have.lengths in
@@ -98,24 +93,8 @@ module _ (opened : Opened) (chunks : List (List ℕ)) where
 
     module _ (generation : ℕ) (of : opened.head.generation ≡ generation) (spots : List Spot) (kept : List NewChunk)
         (same : chunks_in opened.book.sessions ≡ kept) (lie : map length chunks ≡ lengths_kept kept → LieAt (packing chunks) spots chunks) where
-      stored-here : (files : File → List ℕ) → HaveChunks files opened chunks → AreStored files generation spots kept chunks
+      pub stored-here : (files : File → List ℕ) → HaveChunks files opened chunks → AreStored files generation spots kept chunks
       stored-here files have =
           subst (λ (g : ℕ). AreStored files g spots kept chunks) of
           (subst (λ (ks : List NewChunk). AreStored files opened.head.generation spots ks chunks) same
           (chunks-stored files spots have (lie (have.lengths ∙ ap lengths_kept same))))
-
-      pub chunks-named : (told : Option (File → List ℕ)) →
-          IfSome told (λ files. AreStored files generation spots kept chunks → AreKeptNames kept (map name_of chunks)) →
-          IfSome told (λ files. HaveChunks files opened chunks → AreNamed name_of opened.book chunks)
-      chunks-named None holds = tt
-      chunks-named (Some files) holds = λ have.
-          named-here files have (subst (λ (ks : List NewChunk). AreKeptNames ks (map name_of chunks)) (sym same)
-          (holds (stored-here files have)))
-
-      pub chunks-flawed : (told : Option (File → List ℕ)) (damage : Damage) →
-          IfSome told (λ files. AreStored files generation spots kept chunks → IsMisnamed kept (map name_of chunks) 0 damage) →
-          IfSome told (λ files. HaveChunks files opened chunks → IsChunkFlaw name_of opened chunks damage)
-      chunks-flawed None damage holds = tt
-      chunks-flawed (Some files) damage holds = λ have.
-          flaw-here files damage have (subst (λ (ks : List NewChunk). IsMisnamed ks (map name_of chunks) 0 damage) (sym same)
-          (holds (stored-here files have)))

@@ -40,3 +40,7 @@ mod AuditTwins
 mod WindowLemmas
 -- the places of sessions, by what is kept of the cuts of chunks
 mod SessionCuts
+-- the looks at the chunks and the sessions of a store, put together
+mod AuditContents
+-- what an audit found, and what it returns by that
+mod AuditVerdicts

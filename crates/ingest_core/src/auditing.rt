@@ -6,6 +6,7 @@ ghost use Rattle.store_core.specs.Shelves.{OnlyReads};
 mod batch_cuts;
 mod chunk_cuts;
 mod chunks;
+mod contents;
 mod cuts;
 mod marks;
 mod order;

@@ -1,7 +1,7 @@
 //! A store as one value.
 ghost use Rattle.std.specs.Prelude.{◌≡◌, ◌<◌, ◌≤◌, [], length, true, None, IfOk, IfSome, OnErr, IsErrOf};
 ghost use Rattle.std.specs.List.{All};
-ghost use Rattle.sd_base.specs.Books.{places_in, recipe_damage};
+ghost use Rattle.sd_base.specs.Books.{chunks_in, places_in, recipe_damage};
 ghost use Rattle.sd_base.specs.Opening.{IsOpeningDamage, OpenAs, chunk_lengths};
 ghost use Rattle.sd_base.specs.Params.{numbers_of};
 ghost use Rattle.sd_base.specs.States.{IsLawful, State};
@@ -131,6 +131,7 @@ impl<N: Namer> Store<N> {
     /// The book of the committed records.
     pub fn book(&self) -> &Book
         ensures book { result.now ≡ self.now.opened.book }
+        ensures chunk_limit { length (chunks_in result.now.sessions) ≤ MAX_CHUNKS }
     {
         &self.book
     }

@@ -8,6 +8,7 @@ use rabin_window::Tables;
 use sd_base::{DEFAULT_WORKERS, Params};
 
 /// How chunks are named and cut, and by how many workers a batch of them is looked at.
+#[derive(Drop)]
 pub(crate) struct ChunkRules<'a, N: Namer> {
     pub(crate) namer: &'a N,
     pub(crate) tables: Tables,
