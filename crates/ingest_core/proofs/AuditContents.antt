@@ -12,10 +12,12 @@ use Rattle.ingest_core.specs.AuditCuts.{AreCutsOfAll, IsFirstNotCut}
 use Rattle.ingest_core.specs.AuditOrder.{IsFirstOutOfOrder}
 use Rattle.ingest_core.specs.AuditTwins.{IsFirstTwin}
 use Rattle.ingest_core.specs.declared.auditing.chunk_cuts.ChunkCuts.{ChunkCuts}
+use Rattle.sd_base.proofs.MarkedContainers.{have-chunks}
 use Rattle.sd_base.specs.Books.{BookState, chunks_in}
 use Rattle.sd_base.specs.CuttingLaws.{AreFilled}
-use Rattle.sd_base.specs.Flaws.{AreCut, AreFlawless, AreInOrder, AreNamed, AreNew, HaveChunks, IsFlawAmong}
-use Rattle.sd_base.specs.Opening.{Opened, chunk_lengths}
+use Rattle.sd_base.specs.Firsts.{HoldsBelow}
+use Rattle.sd_base.specs.Flaws.{AreCut, AreFlawless, AreInOrder, AreNamed, AreNew, HasMark, HaveChunks, IsFlawAmong, IsFlawOf}
+use Rattle.sd_base.specs.Opening.{OpenAs, Opened, chunk_lengths, needed_sizes}
 use Rattle.sd_base.specs.Packing.{packing}
 use Rattle.sd_base.specs.Parameters.{IsValid}
 use Rattle.sd_base.specs.declared.damage.Damage.{Damage}
@@ -129,3 +131,24 @@ module _ (name_of : List ℕ → List ℕ) (opened : Opened) (chunks : List (Lis
                 equals = found.equals;
               })))
         ]
+
+-- a store that was opened: its containers have their marks, so they have chunks
+module _ (name_of : List ℕ → List ℕ) (opened : Opened) where
+  abbrev pub AreMarked : (File → List ℕ) → Type 0
+  AreMarked files = OpenAs files opened → HoldsBelow (length (needed_sizes opened.book)) (HasMark files opened)
+
+  pub store-flaw : (told : Option (File → List ℕ)) (damage : Damage) → IfSome told AreMarked →
+      ((chunks : List (List ℕ)) → IfSome told (λ files. HaveChunks files opened chunks → IsFlawAmong name_of opened chunks damage)) →
+      IfSome told (λ files. OpenAs files opened → IsFlawOf name_of files opened (Some damage))
+  store-flaw None damage marked found = tt
+  store-flaw (Some files) damage marked found = λ opens.
+      let have = have-chunks files opened opens (marked opens) in
+      inr (have.0, have.1, found have.0 have.1)
+
+  pub store-flawless : (told : Option (File → List ℕ)) → IfSome told AreMarked →
+      ((chunks : List (List ℕ)) → IfSome told (λ files. HaveChunks files opened chunks → AreFlawless name_of opened chunks)) →
+      IfSome told (λ files. OpenAs files opened → IsFlawOf name_of files opened None)
+  store-flawless None marked found = tt
+  store-flawless (Some files) marked found = λ opens.
+      let have = have-chunks files opened opens (marked opens) in
+      (have.0, have.1, found have.0 have.1)

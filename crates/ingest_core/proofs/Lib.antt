@@ -44,3 +44,5 @@ mod SessionCuts
 mod AuditContents
 -- what an audit found, and what it returns by that
 mod AuditVerdicts
+-- the live sessions among the first ones of a book
+mod LiveSessions
