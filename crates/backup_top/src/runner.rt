@@ -6,6 +6,7 @@ ghost use Rattle.sd_base.specs.declared.words.Command.TheVariants.{Quiet as quie
 ghost use Rattle.backup_top.specs.Run.{IsRun};
 ghost use Rattle.backup_top.specs.Words.{texts_of};
 
+use crate::audit::audit;
 use crate::bulk::bulk;
 use crate::dropping::drop_session;
 use crate::ingest::ingest;
@@ -102,5 +103,6 @@ pub fn run_quiet<H: Threads + Sync, R: Source, K: Sink, F: Shelf>(
         Quiet::Restore { name } => restore(alloc, name, sink, shelf),
         Quiet::Drop { name } => write_made(sink, &drop_session(alloc, name, shelf)),
         Quiet::Refs => write_made(sink, &refs(alloc, shelf)),
+        Quiet::Audit => write_made(sink, &audit(rt, alloc, shelf)),
     }
 }
