@@ -46,25 +46,25 @@ of_audit fault (inl (inl is)) = of_audit-at store.ShelfFault fault is (record {
   unmade = tt;
   among = inl (inr (inr (inr (inr (inl refl)))));
   kept = λ before after files holds. inl holds;
-  unwritten = λ ends. elim ends [ | inl clash ↦ absurd cc | inr clash ↦ absurd cc ];
+  unwritten = λ ends. elim ends [ inl clash ↦ absurd cc | inr clash ↦ absurd cc ];
 })
 of_audit fault (inl (inr is)) = of_audit-at store.OutOfMemory fault is (record {
   unmade = tt;
   among = inl (inr (inr (inl refl)));
   kept = λ before after files holds. inl holds;
-  unwritten = λ ends. elim ends [ | inl clash ↦ absurd cc | inr clash ↦ absurd cc ];
+  unwritten = λ ends. elim ends [ inl clash ↦ absurd cc | inr clash ↦ absurd cc ];
 })
 of_audit fault (inr (inl is)) = of_audit-at store.NoStore fault is (record {
   unmade = tt;
   among = inl (inr (inr (inr (inl refl))));
   kept = λ before after files holds. holds;
-  unwritten = λ ends. elim ends [ | inl clash ↦ absurd cc | inr clash ↦ absurd cc ];
+  unwritten = λ ends. elim ends [ inl clash ↦ absurd cc | inr clash ↦ absurd cc ];
 })
 of_audit fault (inr (inr (damage, is))) = of_audit-at (store.Damaged damage) fault is (record {
   unmade = tt;
   among = inr (damage, tt, refl);
   kept = λ before after files holds. holds;
-  unwritten = λ ends. elim ends [ | inl clash ↦ absurd cc | inr clash ↦ absurd cc ];
+  unwritten = λ ends. elim ends [ inl clash ↦ absurd cc | inr clash ↦ absurd cc ];
 })
 
 breaks : (fault : StoreFault) → Breaks fault → IsBroken (outcome_of_store fault)

@@ -84,7 +84,7 @@ GoesByRecords (Ok (quiet (Restore name))) outcome files opened before after =
     RestoresRecords files opened name outcome before after
 GoesByRecords (Ok (quiet (Drop name))) outcome files opened before after = DropsRecords opened name outcome before after
 GoesByRecords (Ok (quiet Refs)) outcome files opened before after = CountsRecords opened outcome before after
-GoesByRecords (Ok (quiet Audit)) outcome files opened before after = 
+GoesByRecords (Ok (quiet Audit)) outcome files opened before after =
     Writes outcome (audit_text (counts_of_book opened.book)) before after
 GoesByRecords (Ok (Ingest name how)) outcome files opened before after = ⊤
 GoesByRecords (Ok (Bulk seed blocks how)) outcome files opened before after = ⊤
