@@ -1,5 +1,6 @@
 //! Runs of `audit`, over a shelf in memory and over one whose reads end early.
 use crate::changes::copied;
+use crate::drops::DROP_A;
 use crate::runs::Bytes::{Text, Zeros};
 use crate::runs::{Planned, words};
 use crate::shrunk_shelf::ShrunkShelf;
@@ -20,13 +21,6 @@ pub(crate) const AUDIT: &str = "store,audit";
 const CONTAINER: File = File::Container(0, 0);
 
 const BOOK: File = File::Book(0);
-
-const DROP_A: Step = Run(
-    "store,drop,a",
-    Zeros(0),
-    Outcome::Done,
-    Text("dropped a 4 places\n"),
-);
 
 const ONE_IS_LIVE: &str = "ok 1 live 2 ingested 2 chunks 1 containers\n";
 

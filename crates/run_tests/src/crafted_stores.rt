@@ -1,12 +1,13 @@
 //! Audits of stores with right records and right names that no run leaves behind.
 use crate::audits::AUDIT;
+use crate::notes::SIXTY_FOUR_ZEROS;
 use crate::runs::Bytes::{Text, Zeros};
 use crate::runs::ends_as;
 use crate::steps::{MADE, Step, follow_on};
 use crate::stores::EIGHT_ZEROS;
 use backup_top::Outcome;
 use edge_traits::{File, MemShelf};
-use sd_base::{Damage, IngestRecord, Name, NewChunk, Record};
+use sd_base::{Damage, IngestRecord, MAX_CHUNK_LEN, Name, NewChunk, Record};
 use session_book::encode_record;
 use std::alloc::Global;
 use std::test::Fail;
@@ -28,16 +29,12 @@ const EIGHT: NewChunk = NewChunk {
     name: EIGHT_ZEROS,
 };
 
-/// The names are by `sha256sum`.
 const SIXTY_FOUR: NewChunk = NewChunk {
     length: 64,
-    name: [
-        0xf5, 0xa5, 0xfd, 0x42, 0xd1, 0x6a, 0x20, 0x30, 0x27, 0x98, 0xef, 0x6e, 0xd3, 0x09, 0x97,
-        0x9b, 0x43, 0x00, 0x3d, 0x23, 0x20, 0xd9, 0xf0, 0xe8, 0xea, 0x98, 0x31, 0xa9, 0x27, 0x59,
-        0xfb, 0x4b,
-    ],
+    name: SIXTY_FOUR_ZEROS,
 };
 
+/// The name is by `sha256sum`.
 const LONG: NewChunk = NewChunk {
     length: 128,
     name: [
@@ -127,9 +124,11 @@ static CRAFTED: [Crafted; 7] = [
     },
 ];
 
-// The book of a store, and its number of records.
+// The book of a store, and its number of records. A record spells only chunks within the limits.
 fn book_of(alloc: Global, store: &Crafted) -> Result<(Vec<u8>, usize), Fail> {
-    if store.fresh.len() > 2 || store.recipe.len() > 3 {
+    let is_chunk = |chunk: &NewChunk| 1 <= chunk.length && chunk.length <= MAX_CHUNK_LEN;
+    let fits = store.fresh.len() <= 2 && store.recipe.len() <= 3;
+    if !fits || !store.fresh.iter().all(is_chunk) {
         return Err(Fail::from(store.title));
     }
     let record = Record::Ingest(IngestRecord {
