@@ -144,8 +144,8 @@ LeavesSource (Ok (Bulk seed blocks how)) outcome left files source_before source
 abbrev pub HoldLawfulState : (File → List ℕ) → Type 0
 HoldLawfulState files = (state : State) × IsLawful state × HoldState sha256 files state
 
--- What an audit leaves of the sink: after a failed call on the store's files and a damage it is as it
--- was, and it is so unless the files hold a lawful state.
+-- What an audit leaves of the sink. After a failed call on the store's files and a damage it is as it
+-- was, and so it is whatever the outcome, unless the files hold a lawful state.
 pub record WritesIfLawful {K : Type 0} (outcome : Outcome) (files : Option (File → List ℕ)) (before after : K) : Type 0 where
   pub broken_off : IsBrokenOff outcome → after ≡ before
   pub only_lawful : (after ≡ before) ⊎ IfSome files HoldLawfulState
@@ -242,16 +242,18 @@ EndsByFlaw (Some damage) outcome = IsBroken outcome ⊎ (outcome ≡ Damaged dam
 
 -- What an audit makes of files, whatever they hold.
 pub record JudgesFiles (outcome : Outcome) (files : File → List ℕ) : Type 0 where
-  -- It is done, or only the writing fails, only if the files hold a lawful state.
+  -- If it is done, or only its write failed, the files hold a lawful state.
   pub lawful : (outcome ≡ Done) ⊎ (outcome ≡ SinkFault) → HoldLawfulState files
   -- A damage is named only if the files hold no lawful state, and it is their first: that of opening
   -- or, if they open, their first flaw.
   pub unlawful : (damage : Damage) → outcome ≡ Damaged damage → HoldLawfulState files → ⊥
   pub damaged : (damage : Damage) → outcome ≡ Damaged damage → IsFirstDamage sha256 files damage
-  -- If there is no store, it is refused so, and only then, unless the shelf failed or memory ran out.
+  -- It is refused as no store only if there is none. If there is none it is refused so, unless the
+  -- shelf failed or memory ran out.
   pub no_store : outcome ≡ NoStore → HoldNoStore files
   pub absent : HoldNoStore files → IsBroken outcome ⊎ (outcome ≡ NoStore)
-  -- What opening finds wrong is named, and if the files open, their first flaw.
+  -- What opening finds wrong is named and, if the files open, their first flaw, unless the shelf
+  -- failed or memory ran out. Without a flaw it is done, unless a device failed or memory ran out.
   pub opening : (damage : Damage) → IsOpeningDamage files damage → IsBroken outcome ⊎ (outcome ≡ Damaged damage)
   pub first_flaw : (opened : Opened) → OpenAs files opened → (flaw : Option Damage)
       → IsFlawOf sha256 files opened flaw → EndsByFlaw flaw outcome

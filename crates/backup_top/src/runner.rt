@@ -31,6 +31,9 @@ use std::thread::Threads;
 /// afterwards are those of the one-pass definition, except for a fault that a device counted in this
 /// call and for running out of memory. After a failed call on the store's files, and if memory runs
 /// out, the files hold the state before or the state after.
+///
+/// Whatever the files hold, `audit` is done only if they hold a lawful state, and names a damage only
+/// if they hold none.
 pub fn run<H: Threads + Sync, R: Source, K: Sink, F: Shelf>(
     rt: &H,
     alloc: Global,
