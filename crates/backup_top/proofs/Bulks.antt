@@ -89,7 +89,7 @@ module _ (seed blocks : ℕ) (how : How) where
           some.0,
           some.1,
           carried_out Pass-of (Ok (Bulk seed blocks how)) ending written_to write_faults sink_faultless sink_before sink_after
-              files_of loose shelf_faults shelf_faultless shelf_before shelf_after made (λ other sink leaves. leaves) makes writes,
+              files_of loose shelf_faults shelf_faultless shelf_before shelf_after made (λ other sink leaves unmade. leaves) makes writes,
           λ opened. by_records-told (files_of shelf_before) opened (bulk_name seed blocks) (bulk_input seed blocks) made ending
               writes.ends (by opened),
         );

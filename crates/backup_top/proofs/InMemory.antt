@@ -12,7 +12,7 @@ use Rattle.sd_base.specs.declared.outcome.Outcome.TheVariants.{Done, BadWords, B
 use Rattle.sd_base.specs.declared.words.BadWords.{BadWords as Refusal}
 use Rattle.sd_base.specs.declared.words.Command.{Command}
 use Rattle.sd_base.specs.declared.words.Command.TheVariants.{Quiet as quiet, Ingest, Bulk}
-use Rattle.sd_base.specs.declared.words.Quiet.TheVariants.{Plan, Init, List as ListSessions, Restore, Drop, Refs}
+use Rattle.sd_base.specs.declared.words.Quiet.TheVariants.{Plan, Init, List as ListSessions, Restore, Drop, Refs, Audit}
 use Rattle.sd_base.proofs.Passes.{state-stays}
 use Rattle.backup_top.specs.InMemory.{EndsInMemory, IsPass, WritesPrefix}
 use Rattle.backup_top.specs.Outcomes.{EndsAs, LeavesStore, Writes}
@@ -28,6 +28,7 @@ needs_held (Ok (quiet ListSessions)) files state held = held
 needs_held (Ok (quiet (Restore name))) files state held = held
 needs_held (Ok (quiet (Drop name))) files state held = held
 needs_held (Ok (quiet Refs)) files state held = held
+needs_held (Ok (quiet Audit)) files state held = held
 needs_held (Ok (Ingest name how)) files state held = held
 needs_held (Ok (Bulk seed blocks how)) files state held = held
 

@@ -719,7 +719,7 @@ ingest_runs name how made ending left read_faults source_faultless source_before
         makes.1,
         carried_out (λ state. in_store (pass_of_ingest name makes.0) state) (Ok (Ingest name how)) ending
             written_to write_faults sink_faultless sink_before sink_after
-            files_of loose shelf_faults shelf_faultless shelf_before shelf_after made (λ other sink leaves. leaves) makes.2 writes,
+            files_of loose shelf_faults shelf_faultless shelf_before shelf_after made (λ other sink leaves unmade. leaves) makes.2 writes,
         λ opened. by_records-told (files_of shelf_before) opened name makes.0 made ending writes.ends (makes.3 opened),
       );
       source_counts = counted_as _ _ read_faults source_faultless source_before source_after

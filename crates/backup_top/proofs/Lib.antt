@@ -23,6 +23,8 @@ mod AsciiDigits
 mod Openings
 -- a run of `list` or of `refs`
 mod Lists
+-- a run of `audit`
+mod Audits
 -- a run of `init`
 mod Inits
 -- a run of `restore`

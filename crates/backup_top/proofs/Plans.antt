@@ -365,7 +365,7 @@ module _ {R F : Type 0} (raw : RawParams) (workers segment : ℕ) (made : Made)
             carried_out (λ state. planned state input) (Ok (quiet (Plan raw workers segment))) outcome
                 written_to write_faults sink_faultless sink_before sink_after
                 files_of loose shelf_faults shelf_faultless shelf shelf made
-                (λ ending sink leaves. leaves)
+                (λ ending sink leaves unmade. leaves)
                 (plan_makes input makes.on_some_input.2 makes.only
                 (plan_among (bad_parameter raw) made makes.flawed makes.sound)) writes,
             λ opened. no_records _ (files_of shelf),

@@ -1,10 +1,11 @@
 -- Runs, put together from what the parts of a command do.
 use Rattle.std.proofs.Common.{◌≡◌, inl, inr, ℕ, Bool, List, ◌∷◌, refl, ap, sym, subst, ◌∙◌, append-nil, arith}
-use Rattle.std.specs.Prelude.{⊤, Err, IfSome, IsErr, IsErrAnd, None, Ok, OnOk, Option, Result, Some, String, string_bytes}
+use Rattle.std.specs.Prelude.{⊤, Err, IfSome, IsErr, IsErrAnd, None, Ok, OnErr, OnOk, Option, Result, Some, String, string_bytes}
 use Rattle.std.specs.declared.alloc.Global.{Global}
 use Rattle.sha2.specs.Sha256.{sha256}
 use Rattle.edge_traits.specs.Sink.{AppendsPrefix}
 use Rattle.ingest_core.proofs.Inputs.{some_input}
+use Rattle.sd_base.specs.Audits.{audit_text, counts_of_book}
 use Rattle.sd_base.specs.OnePass.{Pass, pass_of, refusal}
 use Rattle.sd_base.specs.Opening.{OpenAs, Opened}
 use Rattle.sd_base.specs.Rows.{reference_rows_of_book, rows_of_book}
@@ -16,7 +17,7 @@ use Rattle.sd_base.specs.declared.file.File.{File}
 use Rattle.sd_base.specs.declared.words.BadWords.{BadWords as Refusal}
 use Rattle.sd_base.specs.declared.words.Command.{Command}
 use Rattle.sd_base.specs.declared.words.Command.TheVariants.{Quiet as quiet, Ingest, Bulk}
-use Rattle.sd_base.specs.declared.words.Quiet.TheVariants.{Plan, Init, List as ListSessions, Restore, Drop, Refs}
+use Rattle.sd_base.specs.declared.words.Quiet.TheVariants.{Plan, Init, List as ListSessions, Restore, Drop, Refs, Audit}
 use Rattle.sd_base.specs.declared.outcome.Outcome.{Outcome}
 use Rattle.sd_base.specs.declared.outcome.Outcome.TheVariants.{Done, BadWords, BadParams, NoStore, StoreThere, NameTaken, NoSession, Damaged, InputTooLong, TooManySessions, TooManyPlaces, TooManyChunks, SourceFault, SinkFault, ShelfFault, OutOfMemory}
 use Rattle.store_core.specs.Shelves.{CountsFaults}
@@ -238,6 +239,8 @@ text-by_records (Ok (quiet Refs)) text outcome files opened before after of writ
   answer = of.ends Done refl;
   written = subst (λ (t : List ℕ). Writes outcome t before after) makes.0 written;
 }
+text-by_records (Ok (quiet Audit)) text outcome files opened before after of written makes =
+    subst (λ (t : List ℕ). Writes outcome t before after) makes written
 text-by_records (Ok (Ingest name how)) text outcome files opened before after of written makes = tt
 text-by_records (Ok (Bulk seed blocks how)) text outcome files opened before after of written makes = tt
 
@@ -261,6 +264,8 @@ refusal-by_records (Ok (quiet Refs)) refused files opened written unmade makes =
   answer = ends_broken Done refused makes.1;
   written = unmade.writes (refs_text (reference_rows_of_book opened.book)) written;
 }
+refusal-by_records (Ok (quiet Audit)) refused files opened written unmade makes =
+    unmade.writes (audit_text (counts_of_book opened.book)) written
 refusal-by_records (Ok (Ingest name how)) refused files opened written unmade makes = tt
 refusal-by_records (Ok (Bulk seed blocks how)) refused files opened written unmade makes = tt
 
@@ -280,14 +285,14 @@ module _ {K F : Type 0} (pass : Option State → Pass) (command : Result Command
     (written_to : K → Option (List ℕ)) (write_faults : K → ℕ) (sink_faultless : K → Type 0) (sink_before sink_after : K)
     (files_of : F → Option (File → List ℕ)) (loose : F → File → Bool) (shelf_faults : F → ℕ)
     (shelf_faultless : F → Type 0) (shelf_before shelf_after : F) where
-  -- a command that writes at once leaves the sink if it is broken off
-  abbrev pub LeavesSinkAtOnce : Type 0
-  LeavesSinkAtOnce =
-      (ending : Outcome) (sink : K) → (IsBrokenOff ending → sink ≡ sink_before)
+  -- a command that writes at once leaves the sink if it is broken off, and if it made no text
+  abbrev pub LeavesSinkAtOnce : Made → Type 0
+  LeavesSinkAtOnce made =
+      (ending : Outcome) (sink : K) → (IsBrokenOff ending → sink ≡ sink_before) → OnErr made (sink ≡ sink_before)
       → LeavesSink command ending (files_of shelf_before) sink_before sink
 
   -- the run of a command that made no text, so that the sink was not called
-  not_made : (refused : Outcome) → Unmade refused → LeavesSinkAtOnce
+  not_made : (refused : Outcome) → Unmade refused → LeavesSinkAtOnce (Err refused)
       → MakesText pass command (Err refused) files_of loose shelf_faults shelf_faultless shelf_before shelf_after
       → IsCarriedOut pass command refused written_to write_faults sink_faultless sink_before sink_before
       files_of loose shelf_faults shelf_faultless shelf_before shelf_after
@@ -305,7 +310,7 @@ module _ {K F : Type 0} (pass : Option State → Pass) (command : Result Command
     clean = λ done. absurd (unmade.undone done);
     among = makes.among refused refl;
     silent = λ _. refl;
-    sink = leaves refused sink_before (λ broken. refl);
+    sink = leaves refused sink_before (λ broken. refl) refl;
     shelf = makes.shelf refused refl;
     verdict = makes.verdict refused refl;
     by_records = λ opened. records-told (files_of shelf_before) (MakesByRecords command (Err refused)) (λ files o. OpenAs files o)
@@ -314,7 +319,7 @@ module _ {K F : Type 0} (pass : Option State → Pass) (command : Result Command
         opened (makes.by_records opened);
   }
 
-  pub carried_out : (made : Made) → LeavesSinkAtOnce
+  pub carried_out : (made : Made) → LeavesSinkAtOnce made
       → MakesText pass command made files_of loose shelf_faults shelf_faultless shelf_before shelf_after
       → WritesMade made outcome written_to write_faults sink_faultless sink_before sink_after
       → IsCarriedOut pass command outcome written_to write_faults sink_faultless sink_before sink_after
@@ -336,7 +341,7 @@ module _ {K F : Type 0} (pass : Option State → Pass) (command : Result Command
         clean = λ done. makes.clean;
         among = makes.among outcome writes.ends;
         silent = λ silent. absurd (of.loud silent);
-        sink = leaves outcome sink_after (λ broken. absurd (of.whole broken));
+        sink = leaves outcome sink_after (λ broken. absurd (of.whole broken)) tt;
         shelf = makes.shelf outcome writes.ends;
         verdict = makes.verdict outcome writes.ends;
         by_records = λ opened. records-told (files_of shelf_before) (MakesByRecords command (Ok text)) (λ files o. OpenAs files o)

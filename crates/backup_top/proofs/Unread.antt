@@ -10,7 +10,7 @@ use Rattle.sd_base.specs.declared.outcome.Outcome.TheVariants.{Done, BadParams, 
 use Rattle.sd_base.specs.declared.params.BadParams.{BadParams as BadParameter}
 use Rattle.sd_base.specs.declared.raw_params.RawParams.{RawParams}
 use Rattle.sd_base.specs.declared.words.Command.TheVariants.{Quiet as quiet, Bulk}
-use Rattle.sd_base.specs.declared.words.Quiet.TheVariants.{Init, List as ListSessions, Restore, Drop, Refs}
+use Rattle.sd_base.specs.declared.words.Quiet.TheVariants.{Init, List as ListSessions, Restore, Drop, Refs, Audit}
 use Rattle.backup_top.specs.Outcomes.{IsDamage, IsOneOf}
 use Rattle.backup_top.specs.Run.{MayReturn}
 
@@ -57,6 +57,10 @@ drop_unread name outcome (inr found) = damaged outcome _ found
 
 pub refs_unread : (outcome : Outcome) → MayReturn (Ok (quiet Refs)) outcome → outcome ≡ SourceFault → ⊥
 refs_unread = list_unread
+
+pub audit_unread : (outcome : Outcome) → MayReturn (Ok (quiet Audit)) outcome → outcome ≡ SourceFault → ⊥
+audit_unread outcome (inl among) = list_unread outcome (inl among)
+audit_unread outcome (inr found) = damaged outcome _ found
 
 pub bulk_unread : (seed blocks : ℕ) (how : How) (outcome : Outcome) → MayReturn (Ok (Bulk seed blocks how)) outcome
     → outcome ≡ SourceFault → ⊥

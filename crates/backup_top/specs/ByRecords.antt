@@ -5,6 +5,7 @@ use Rattle.std.specs.Option.{option_and_then}
 use Rattle.std.specs.Prelude.{◌≡◌, ◌⊎◌, ⊤, ℕ, List, [], ◌∷◌, length, true, Option, None, option_map, IfSome, Result, Ok, Err}
 use Rattle.sha2.specs.Sha256.{sha256}
 use Rattle.ingest_core.specs.ByBook.{refusal_by_book}
+use Rattle.sd_base.specs.Audits.{audit_text, counts_of_book}
 use Rattle.sd_base.specs.Books.{live_session}
 use Rattle.sd_base.specs.Generator.{bulk_input, bulk_name}
 use Rattle.sd_base.specs.Opening.{Opened}
@@ -16,7 +17,7 @@ use Rattle.sd_base.specs.declared.record.Session.{Session}
 use Rattle.sd_base.specs.declared.words.BadWords.{BadWords as Refusal}
 use Rattle.sd_base.specs.declared.words.Command.{Command}
 use Rattle.sd_base.specs.declared.words.Command.TheVariants.{Quiet as quiet, Ingest, Bulk}
-use Rattle.sd_base.specs.declared.words.Quiet.TheVariants.{Plan, Init, List as ListSessions, Restore, Drop, Refs}
+use Rattle.sd_base.specs.declared.words.Quiet.TheVariants.{Plan, Init, List as ListSessions, Restore, Drop, Refs, Audit}
 use Rattle.sd_base.specs.declared.outcome.Outcome.{Outcome}
 use Rattle.sd_base.specs.declared.outcome.Outcome.TheVariants.{Done, NoSession, Damaged, SinkFault, OutOfMemory, ShelfFault, SourceFault, TooManyChunks}
 use Rattle.store_core.specs.Faults.{IsOfChunk}
@@ -71,7 +72,8 @@ pub record RestoresRecords (files : File → List ℕ) (opened : Opened) (name :
   -- its name.
   pub part : RestoresPart sha256 files (store_of opened) (recipe_named (store_of opened) name) before after
 
--- What a run does by the records, by command.
+-- What a run does by the records, by command. The text of `audit` has their counts; how it ends goes
+-- by all the files, as `JudgesFiles` says.
 abbrev pub GoesByRecords : Result Command Refusal → Outcome → (File → List ℕ) → Opened
     → Option (List ℕ) → Option (List ℕ) → Type 0
 GoesByRecords (Err bad) outcome files opened before after = ⊤
@@ -82,6 +84,8 @@ GoesByRecords (Ok (quiet (Restore name))) outcome files opened before after =
     RestoresRecords files opened name outcome before after
 GoesByRecords (Ok (quiet (Drop name))) outcome files opened before after = DropsRecords opened name outcome before after
 GoesByRecords (Ok (quiet Refs)) outcome files opened before after = CountsRecords opened outcome before after
+GoesByRecords (Ok (quiet Audit)) outcome files opened before after =
+    Writes outcome (audit_text (counts_of_book opened.book)) before after
 GoesByRecords (Ok (Ingest name how)) outcome files opened before after = ⊤
 GoesByRecords (Ok (Bulk seed blocks how)) outcome files opened before after = ⊤
 
@@ -105,6 +109,7 @@ TakesByRecords (Ok (quiet ListSessions)) outcome opened input = ⊤
 TakesByRecords (Ok (quiet (Restore name))) outcome opened input = ⊤
 TakesByRecords (Ok (quiet (Drop name))) outcome opened input = ⊤
 TakesByRecords (Ok (quiet Refs)) outcome opened input = ⊤
+TakesByRecords (Ok (quiet Audit)) outcome opened input = ⊤
 TakesByRecords (Ok (Ingest name how)) outcome opened input = IngestsByRecords opened name input outcome
 TakesByRecords (Ok (Bulk seed blocks how)) outcome opened input =
     IngestsByRecords opened (bulk_name seed blocks) (bulk_input seed blocks) outcome

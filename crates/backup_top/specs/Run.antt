@@ -9,12 +9,14 @@ use Rattle.std.specs.Prelude.{◌≡◌, ◌≢◌, ◌⊎◌, ◌≤◌, ◌<�
 use Rattle.sha2.specs.Sha256.{sha256}
 use Rattle.edge_traits.specs.Shelf.{SameFiles, SameLoose, content}
 use Rattle.edge_traits.specs.Source.{IsAtEnd, LosesAtMost}
+use Rattle.ingest_core.specs.Auditing.{IsFirstDamage}
 use Rattle.ingest_core.specs.Ingests.{IsClosedTo, IsInputOf}
+use Rattle.sd_base.specs.Flaws.{IsFlawOf}
 use Rattle.sd_base.specs.OnePass.{Pass}
 use Rattle.sd_base.specs.Opening.{IsOpeningDamage, OpenAs, Opened}
 use Rattle.sd_base.specs.Parameters.{bad_parameter}
 use Rattle.sd_base.specs.States.{IsLawful, State}
-use Rattle.sd_base.specs.Stores.{AreClean, Hold, HoldNoStore}
+use Rattle.sd_base.specs.Stores.{AreClean, Hold, HoldNoStore, HoldState}
 use Rattle.sd_base.specs.declared.damage.Damage.{Damage}
 use Rattle.sd_base.specs.declared.file.File.{File}
 use Rattle.sd_base.specs.declared.file.File.TheVariants.{Book, Head, Seal}
@@ -22,7 +24,7 @@ use Rattle.sd_base.specs.declared.limits.TheConstants.{MAX_INPUT, OPEN_HEAD_LEN}
 use Rattle.sd_base.specs.declared.words.BadWords.{BadWords as Refusal}
 use Rattle.sd_base.specs.declared.words.Command.{Command}
 use Rattle.sd_base.specs.declared.words.Command.TheVariants.{Quiet as quiet, Ingest, Bulk}
-use Rattle.sd_base.specs.declared.words.Quiet.TheVariants.{Plan, Init, List as ListSessions, Restore, Drop, Refs}
+use Rattle.sd_base.specs.declared.words.Quiet.TheVariants.{Plan, Init, List as ListSessions, Restore, Drop, Refs, Audit}
 use Rattle.sd_base.specs.declared.outcome.Outcome.{Outcome}
 use Rattle.sd_base.specs.declared.outcome.Outcome.TheVariants.{Done, BadWords, BadParams, NoStore, StoreThere, NameTaken, NoSession, Damaged, InputTooLong, TooManySessions, TooManyPlaces, TooManyChunks, SourceFault, SinkFault, ShelfFault, OutOfMemory}
 use Rattle.store_core.specs.Faults.{IsOfChunk, IsOfOpening}
@@ -47,6 +49,7 @@ NeedsHeld (Ok (quiet ListSessions)) files state = AreHeld files state
 NeedsHeld (Ok (quiet (Restore name))) files state = AreHeld files state
 NeedsHeld (Ok (quiet (Drop name))) files state = AreHeld files state
 NeedsHeld (Ok (quiet Refs)) files state = AreHeld files state
+NeedsHeld (Ok (quiet Audit)) files state = AreHeld files state
 NeedsHeld (Ok (Ingest name how)) files state = AreHeld files state
 NeedsHeld (Ok (Bulk seed blocks how)) files state = AreHeld files state
 
@@ -70,6 +73,8 @@ MayReturn (Ok (quiet (Drop name))) outcome =
     IsOneOf (Done ∷ SinkFault ∷ OutOfMemory ∷ NoStore ∷ ShelfFault ∷ NoSession ∷ []) outcome ⊎ IsDamage IsOfOpening outcome
 MayReturn (Ok (quiet Refs)) outcome =
     IsOneOf (Done ∷ SinkFault ∷ OutOfMemory ∷ NoStore ∷ ShelfFault ∷ []) outcome ⊎ IsDamage IsOfOpening outcome
+MayReturn (Ok (quiet Audit)) outcome =
+    IsOneOf (Done ∷ SinkFault ∷ OutOfMemory ∷ NoStore ∷ ShelfFault ∷ []) outcome ⊎ IsDamage (λ flaw. ⊤) outcome
 MayReturn (Ok (Ingest name how)) outcome =
     IsOneOf (Done ∷ SinkFault ∷ OutOfMemory ∷ NoStore ∷ ShelfFault ∷ NameTaken ∷ TooManySessions ∷ SourceFault
     ∷ InputTooLong ∷ TooManyPlaces ∷ TooManyChunks ∷ []) outcome
@@ -128,10 +133,22 @@ LeavesSource (Ok (quiet (Drop name))) outcome left files source_before source_af
     source_after ≡ source_before
 LeavesSource (Ok (quiet Refs)) outcome left files source_before source_after sink_before sink_after =
     source_after ≡ source_before
+LeavesSource (Ok (quiet Audit)) outcome left files source_before source_after sink_before sink_after =
+    source_after ≡ source_before
 LeavesSource (Ok (Ingest name how)) outcome left files source_before source_after sink_before sink_after =
     IngestReads name outcome left files source_before source_after sink_before sink_after
 LeavesSource (Ok (Bulk seed blocks how)) outcome left files source_before source_after sink_before sink_after =
     source_after ≡ source_before
+
+-- the files hold a lawful state
+abbrev pub HoldLawfulState : (File → List ℕ) → Type 0
+HoldLawfulState files = (state : State) × IsLawful state × HoldState sha256 files state
+
+-- What an audit leaves of the sink. After a failed call on the store's files and a damage it is as it
+-- was, and so it is whatever the outcome, unless the files hold a lawful state.
+pub record WritesIfLawful {K : Type 0} (outcome : Outcome) (files : Option (File → List ℕ)) (before after : K) : Type 0 where
+  pub broken_off : IsBrokenOff outcome → after ≡ before
+  pub only_lawful : (after ≡ before) ⊎ IfSome files HoldLawfulState
 
 -- What a run leaves of the sink after a failed call on the store's files and a damage: it is as it
 -- was. Only a restore may have written, if opening finds no damage.
@@ -144,6 +161,7 @@ LeavesSink (Ok (quiet (Restore name))) outcome files before after =
     IfSome files (λ bytes_of. (flaw : Damage) → IsOpeningDamage bytes_of flaw → after ≡ before)
 LeavesSink (Ok (quiet (Drop name))) outcome files before after = IsBrokenOff outcome → after ≡ before
 LeavesSink (Ok (quiet Refs)) outcome files before after = IsBrokenOff outcome → after ≡ before
+LeavesSink (Ok (quiet Audit)) outcome files before after = WritesIfLawful outcome files before after
 LeavesSink (Ok (Ingest name how)) outcome files before after = IsBrokenOff outcome → after ≡ before
 LeavesSink (Ok (Bulk seed blocks how)) outcome files before after = IsBrokenOff outcome → after ≡ before
 
@@ -196,6 +214,8 @@ LeavesShelf (Ok (quiet (Drop name))) outcome files_of loose before after =
     DropsSession outcome files_of loose before after
 LeavesShelf (Ok (quiet Refs)) outcome files_of loose before after =
     KeepsFiles files_of loose before after
+LeavesShelf (Ok (quiet Audit)) outcome files_of loose before after =
+    KeepsFiles files_of loose before after
 LeavesShelf (Ok (Ingest name how)) outcome files_of loose before after =
     IsBeforeReading outcome → KeepsFiles files_of loose before after
 LeavesShelf (Ok (Bulk seed blocks how)) outcome files_of loose before after =
@@ -215,6 +235,29 @@ pub record LooksForStore (outcome : Outcome) (files : File → List ℕ) : Type 
   -- If there is a store, it is refused so, unless the shelf failed or memory ran out.
   pub refused : OPEN_HEAD_LEN ≤ length (files Head) → IsBroken outcome ⊎ (outcome ≡ StoreThere)
 
+-- how an audit ends over files that open and have this first flaw, or none
+abbrev pub EndsByFlaw : Option Damage → Outcome → Type 0
+EndsByFlaw None outcome = EndsAs Done outcome
+EndsByFlaw (Some damage) outcome = IsBroken outcome ⊎ (outcome ≡ Damaged damage)
+
+-- What an audit makes of files, whatever they hold.
+pub record JudgesFiles (outcome : Outcome) (files : File → List ℕ) : Type 0 where
+  -- If it is done, or only its write failed, the files hold a lawful state.
+  pub lawful : (outcome ≡ Done) ⊎ (outcome ≡ SinkFault) → HoldLawfulState files
+  -- A damage is named only if the files hold no lawful state, and it is their first: that of opening
+  -- or, if they open, their first flaw.
+  pub unlawful : (damage : Damage) → outcome ≡ Damaged damage → HoldLawfulState files → ⊥
+  pub damaged : (damage : Damage) → outcome ≡ Damaged damage → IsFirstDamage sha256 files damage
+  -- It is refused as no store only if there is none. If there is none it is refused so, unless the
+  -- shelf failed or memory ran out.
+  pub no_store : outcome ≡ NoStore → HoldNoStore files
+  pub absent : HoldNoStore files → IsBroken outcome ⊎ (outcome ≡ NoStore)
+  -- What opening finds wrong is named and, if the files open, their first flaw, unless the shelf
+  -- failed or memory ran out. Without a flaw it is done, unless a device failed or memory ran out.
+  pub opening : (damage : Damage) → IsOpeningDamage files damage → IsBroken outcome ⊎ (outcome ≡ Damaged damage)
+  pub first_flaw : (opened : Opened) → OpenAs files opened → (flaw : Option Damage)
+      → IsFlawOf sha256 files opened flaw → EndsByFlaw flaw outcome
+
 -- The same, by command.
 abbrev pub GoesByVerdict : Result Command Refusal → Outcome → Option (File → List ℕ) → Type 0
 GoesByVerdict (Err bad) outcome files = ⊤
@@ -224,6 +267,7 @@ GoesByVerdict (Ok (quiet ListSessions)) outcome files = IfSome files (OpensFirst
 GoesByVerdict (Ok (quiet (Restore name))) outcome files = IfSome files (OpensFirst IsOfChunk outcome)
 GoesByVerdict (Ok (quiet (Drop name))) outcome files = IfSome files (OpensFirst (λ flaw. ⊥) outcome)
 GoesByVerdict (Ok (quiet Refs)) outcome files = IfSome files (OpensFirst (λ flaw. ⊥) outcome)
+GoesByVerdict (Ok (quiet Audit)) outcome files = IfSome files (JudgesFiles outcome)
 GoesByVerdict (Ok (Ingest name how)) outcome files = IfSome files (OpensFirst IsOfChunk outcome)
 GoesByVerdict (Ok (Bulk seed blocks how)) outcome files = IfSome files (OpensFirst IsOfChunk outcome)
 

@@ -5,6 +5,7 @@ use Rattle.sha2.specs.Sha256.{sha256}
 use Rattle.edge_traits.specs.Source.{IsAtEnd, LosesAtMost}
 use Rattle.ingest_core.specs.ByBook.{refusal_by_book}
 use Rattle.ingest_core.specs.Ingests.{IsClosedTo, IsInputOf}
+use Rattle.sd_base.specs.Audits.{audit_text, counts_of_book}
 use Rattle.sd_base.specs.Books.{live_session}
 use Rattle.sd_base.specs.OnePass.{Pass, pass_of_drop}
 use Rattle.sd_base.specs.Opening.{IsOpeningDamage, OpenAs, Opened}
@@ -19,7 +20,7 @@ use Rattle.sd_base.specs.declared.params.BadParams.{BadParams as BadParameter}
 use Rattle.sd_base.specs.declared.words.BadWords.{BadWords as Refusal}
 use Rattle.sd_base.specs.declared.words.Command.{Command}
 use Rattle.sd_base.specs.declared.words.Command.TheVariants.{Quiet as quiet, Ingest, Bulk}
-use Rattle.sd_base.specs.declared.words.Quiet.TheVariants.{Plan, Init, List as ListSessions, Restore, Drop, Refs}
+use Rattle.sd_base.specs.declared.words.Quiet.TheVariants.{Plan, Init, List as ListSessions, Restore, Drop, Refs, Audit}
 use Rattle.sd_base.specs.declared.outcome.Outcome.{Outcome}
 use Rattle.sd_base.specs.declared.outcome.Outcome.TheVariants.{Done, BadWords, BadParams, NoStore, StoreThere, NameTaken, NoSession, Damaged, InputTooLong, TooManySessions, TooManyPlaces, TooManyChunks, SourceFault, SinkFault, ShelfFault, OutOfMemory}
 use Rattle.store_core.specs.Faults.{IsOfChunk, IsOfOpening}
@@ -104,6 +105,8 @@ MakesByRecords (Ok (quiet (Restore name))) made opened = ⊥
 MakesByRecords (Ok (quiet (Drop name))) made opened = DropsByBook opened name made
 MakesByRecords (Ok (quiet Refs)) made opened =
     IfOk made (λ text. string_bytes text ≡ refs_text (reference_rows_of_book opened.book)) × IfErr made IsBroken
+MakesByRecords (Ok (quiet Audit)) made opened =
+    IfOk made (λ text. string_bytes text ≡ audit_text (counts_of_book opened.book))
 MakesByRecords (Ok (Ingest name how)) made opened = ⊤
 MakesByRecords (Ok (Bulk seed blocks how)) made opened = ⊤
 

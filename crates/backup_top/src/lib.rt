@@ -1,9 +1,11 @@
 //! The top of the tool: reads the words, runs the command that they name, and says how the run
 //! ended. It uses the definitions of `sd_base`, the devices of `edge_traits` and the names of
-//! `chunk_names`. It cuts and takes in by `ingest_core`. By `store_core` it makes and opens a store,
-//! restores and drops sessions, and counts references. All rules here are this project's own.
+//! `chunk_names`. It cuts, takes in and audits by `ingest_core`. By `store_core` it makes and opens a
+//! store, restores and drops sessions, and counts references. All rules here are this project's own.
 #![tactic(auto)]
 
+mod audit;
+mod audit_text;
 mod bulk;
 mod bulk_name;
 mod drop_text;

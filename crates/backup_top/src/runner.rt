@@ -6,6 +6,7 @@ ghost use Rattle.sd_base.specs.declared.words.Command.TheVariants.{Quiet as quie
 ghost use Rattle.backup_top.specs.Run.{IsRun};
 ghost use Rattle.backup_top.specs.Words.{texts_of};
 
+use crate::audit::audit;
 use crate::bulk::bulk;
 use crate::dropping::drop_session;
 use crate::ingest::ingest;
@@ -30,6 +31,9 @@ use std::thread::Threads;
 /// afterwards are those of the one-pass definition, except for a fault that a device counted in this
 /// call and for running out of memory. After a failed call on the store's files, and if memory runs
 /// out, the files hold the state before or the state after.
+///
+/// Whatever the files hold, `audit` is done only if they hold a lawful state, and names a damage only
+/// if they hold none.
 pub fn run<H: Threads + Sync, R: Source, K: Sink, F: Shelf>(
     rt: &H,
     alloc: Global,
@@ -102,5 +106,6 @@ pub fn run_quiet<H: Threads + Sync, R: Source, K: Sink, F: Shelf>(
         Quiet::Restore { name } => restore(alloc, name, sink, shelf),
         Quiet::Drop { name } => write_made(sink, &drop_session(alloc, name, shelf)),
         Quiet::Refs => write_made(sink, &refs(alloc, shelf)),
+        Quiet::Audit => write_made(sink, &audit(rt, alloc, shelf)),
     }
 }

@@ -2,7 +2,7 @@ ghost use Rattle.std.specs.Prelude.{◌≡◌, ◌≤◌, ℕ, List, [], ◌∷�
 ghost use Rattle.std.specs.Result.{result_err};
 ghost use Rattle.sd_base.specs.Keys.{first_bad_word, number_of};
 ghost use Rattle.sd_base.specs.Names.{bad_name};
-ghost use Rattle.sd_base.specs.Words.{bulk_of, bulk_of_seed, command_of, drop_of, ingest_of, init_of, list_of, plan_of, refs_of, restore_of, session_command_of};
+ghost use Rattle.sd_base.specs.Words.{audit_of, bulk_of, bulk_of_seed, command_of, drop_of, ingest_of, init_of, list_of, plan_of, refs_of, restore_of, session_command_of};
 ghost use Rattle.backup_top.specs.Keys.{key_spec_of};
 ghost use Rattle.backup_top.specs.Words.{command_with, texts_of};
 
@@ -37,6 +37,7 @@ fn read_command(command: &str, words: &[String]) -> Result<Command, BadWords>
         "restore" => read_restore(words),
         "drop" => read_drop(words),
         "refs" => read_refs(words),
+        "audit" => read_audit(words),
         _ => Err(BadWords {
             kind: BadKind::Command,
             place: 0,
@@ -161,6 +162,14 @@ fn read_refs(words: &[String]) -> Result<Command, BadWords>
 {
     refuse_keys(words, 1)?;
     Ok(Command::Quiet(Quiet::Refs))
+}
+
+// Reads the words after `audit`.
+fn read_audit(words: &[String]) -> Result<Command, BadWords>
+    ensures { result ≡ audit_of (texts_of words.now) }
+{
+    refuse_keys(words, 1)?;
+    Ok(Command::Quiet(Quiet::Audit))
 }
 
 // Reads the words after a command that takes the name of a session and no keys.

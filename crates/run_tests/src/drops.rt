@@ -27,7 +27,7 @@ const COUNTED_NONE: &str = "\
 1 0 8 af5570f5a1810b7af78caf4bc70a660f0df51e42baf91d4de5b2328de0e83dfc
 ";
 
-const DROP_A: Step = Run(
+pub(crate) const DROP_A: Step = Run(
     "store,drop,a",
     Zeros(0),
     Outcome::Done,

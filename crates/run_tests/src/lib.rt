@@ -3,9 +3,13 @@
 #![tactic(auto)]
 
 #[cfg(test)]
+mod audits;
+#[cfg(test)]
 mod bulks;
 #[cfg(test)]
 mod changes;
+#[cfg(test)]
+mod crafted_stores;
 #[cfg(test)]
 mod drops;
 #[cfg(test)]
@@ -16,6 +20,8 @@ mod notes;
 mod plans;
 #[cfg(test)]
 mod runs;
+#[cfg(test)]
+mod shrunk_shelf;
 #[cfg(test)]
 mod steps;
 #[cfg(test)]

@@ -3,8 +3,8 @@ use backup_top::{BadKind, BadParams, BadWords, Outcome, note_of, status_of};
 use sd_base::Damage;
 use std::test::Fail;
 
-// The name of 64 zeros, by `sha256sum`.
-const ZEROS: [u8; 32] = [
+/// The name of 64 zeros, by `sha256sum`.
+pub(crate) const SIXTY_FOUR_ZEROS: [u8; 32] = [
     0xf5, 0xa5, 0xfd, 0x42, 0xd1, 0x6a, 0x20, 0x30, 0x27, 0x98, 0xef, 0x6e, 0xd3, 0x09, 0x97, 0x9b,
     0x43, 0x00, 0x3d, 0x23, 0x20, 0xd9, 0xf0, 0xe8, 0xea, 0x98, 0x31, 0xa9, 0x27, 0x59, 0xfb, 0x4b,
 ];
@@ -92,7 +92,7 @@ static NOTES: [(Outcome, u8, &str); 28] = [
     (
         Outcome::Damaged(Damage::Chunk {
             number: 1,
-            kept: ZEROS,
+            kept: SIXTY_FOUR_ZEROS,
             found: [0x0a; 32],
         }),
         7,

@@ -140,11 +140,12 @@ fn edited(
 }
 
 /// The commands that open the store, and the zeros of their input.
-static OPENING: [(&str, usize); 5] = [
+static OPENING: [(&str, usize); 6] = [
     ("store,list", 0),
     ("store,restore,a", 0),
     ("store,drop,a", 0),
     ("store,refs", 0),
+    ("store,audit", 0),
     ("store,ingest,c", 200),
 ];
 

@@ -18,11 +18,11 @@ fn is_read_as(
 }
 
 // Command lines, and the word of each that fails.
-static BAD: [(&str, BadKind, u32); 32] = [
+static BAD: [(&str, BadKind, u32); 33] = [
     ("store", BadKind::Missing, 0),
     ("store,Plan", BadKind::Command, 0),
     ("store,,bits=13", BadKind::Command, 0),
-    ("store,audit", BadKind::Command, 0),
+    ("store,prune", BadKind::Command, 0),
     ("store,plan,", BadKind::Key, 1),
     ("store,plan,bits=13,bits", BadKind::Key, 2),
     ("store,plan,bits=13,min=64,bits=", BadKind::Twice, 3),
@@ -59,6 +59,7 @@ static BAD: [(&str, BadKind, u32); 32] = [
     ("store,drop,.x", BadKind::Name, 1),
     ("store,drop,a,b", BadKind::Key, 2),
     ("store,refs,a", BadKind::Key, 1),
+    ("store,audit,a", BadKind::Key, 1),
 ];
 
 #[test]
@@ -175,6 +176,7 @@ fn each_command_of_the_store_has_its_words(rt: HostRuntime) -> Result<(), Fail> 
         ("store,restore,a.1", Command::Quiet(Quiet::Restore { name })),
         ("store,drop,a.1", Command::Quiet(Quiet::Drop { name })),
         ("store,refs", Command::Quiet(Quiet::Refs)),
+        ("store,audit", Command::Quiet(Quiet::Audit)),
     ] {
         assert!(rt; is_read_as(rt.alloc(), line, Ok(command))?, "{line}");
     }

@@ -13,7 +13,7 @@ use Rattle.sd_base.specs.Words.{blocks_number, bulk_of, bulk_of_numbers, bulk_of
 use Rattle.sd_base.specs.declared.words.BadWords.{BadWords}
 use Rattle.sd_base.specs.declared.words.Command.{Command}
 use Rattle.sd_base.specs.declared.words.Command.TheVariants.{Quiet, Ingest, Bulk}
-use Rattle.sd_base.specs.declared.words.Quiet.TheVariants.{Plan, Init, List as ListSessions, Restore, Drop, Refs}
+use Rattle.sd_base.specs.declared.words.Quiet.TheVariants.{Plan, Init, List as ListSessions, Restore, Drop, Refs, Audit}
 use Rattle.sd_base.proofs.Generator.{bulk_name-is_name}
 use Rattle.sd_base.proofs.Names.{IsName_is_no_refusal}
 
@@ -154,10 +154,10 @@ module _ (P : Command → Type 0) where
       ((n blocks : ℕ) (more : List (List ℕ)) → IsSeed n → AreBlocks blocks → P (Bulk n blocks (how_of more))) →
       P (Quiet ListSessions) →
       ((name : List ℕ) → IsName name → P (Quiet (Restore name))) →
-      ((name : List ℕ) → IsName name → P (Quiet (Drop name))) → P (Quiet Refs) →
+      ((name : List ℕ) → IsName name → P (Quiet (Drop name))) → P (Quiet Refs) → P (Quiet Audit) →
       (words : List (List ℕ)) → IfOk (command_of words) P
-  command-keeps plan init ingest bulk list restore drop refs [] = tt
-  command-keeps plan init ingest bulk list restore drop refs (word ∷ words) =
+  command-keeps plan init ingest bulk list restore drop refs audit [] = tt
+  command-keeps plan init ingest bulk list restore drop refs audit (word ∷ words) =
       let bad_parameter = first_bad_word params_keys [] 1 words in
       let planned = Quiet (Plan (params_of words) (how_of words).workers (how_of words).segment) in
       either (bytes_eq word (codes "plan")) _ _ (unless_bad-keeps (first_bad_word plan_keys [] 1 words) planned (plan words))
@@ -173,19 +173,21 @@ module _ (P : Command → Type 0) where
       (either (bytes_eq word (codes "drop")) _ _
       (session_command-keeps [] (λ name more. Quiet (Drop name)) words (λ name more. drop name))
       (either (bytes_eq word (codes "refs")) _ _
-      (unless_bad-keeps (first_bad_word [] [] 1 words) (Quiet Refs) refs) tt)))))))
+      (unless_bad-keeps (first_bad_word [] [] 1 words) (Quiet Refs) refs)
+      (either (bytes_eq word (codes "audit")) _ _
+      (unless_bad-keeps (first_bad_word [] [] 1 words) (Quiet Audit) audit) tt))))))))
 
 pub numbers_in_range : (words : List (List ℕ)) → IfOk (command_of words) HasNumbersInRange
 numbers_in_range =
     command-keeps HasNumbersInRange (λ words. ((how-fits words).workers, (how-fits words).segment)) (λ words. tt)
-    (λ name more is_name. how-fits more) (λ seed blocks more fits are. (fits, are, how-fits more)) tt (λ name is_name. tt) (λ name is_name. tt) tt
+    (λ name more is_name. how-fits more) (λ seed blocks more fits are. (fits, are, how-fits more)) tt (λ name is_name. tt) (λ name is_name. tt) tt tt
 
 pub names_of_sessions : (words : List (List ℕ)) → IfOk (command_of words) HasSessionName
 names_of_sessions =
     command-keeps HasSessionName (λ words. tt) (λ words. tt) (λ name more is_name. is_name)
-    (λ seed blocks more fits are. bulk_name-is_name seed blocks fits are) tt (λ name is_name. is_name) (λ name is_name. is_name) tt
+    (λ seed blocks more fits are. bulk_name-is_name seed blocks fits are) tt (λ name is_name. is_name) (λ name is_name. is_name) tt tt
 
 pub raw_params : (words : List (List ℕ)) → IfOk (command_of words) HasRawParams
 raw_params =
     command-keeps HasRawParams params-fit params-fit (λ name more is_name. tt) (λ seed blocks more fits are. tt) tt
-    (λ name is_name. tt) (λ name is_name. tt) tt
+    (λ name is_name. tt) (λ name is_name. tt) tt tt

@@ -24,7 +24,7 @@ use Rattle.sd_base.specs.declared.raw_params.RawParams.{RawParams}
 use Rattle.sd_base.specs.declared.words.BadWords.{BadWords as Refusal}
 use Rattle.sd_base.specs.declared.words.Command.{Command}
 use Rattle.sd_base.specs.declared.words.Command.TheVariants.{Quiet, Ingest, Bulk}
-use Rattle.sd_base.specs.declared.words.Quiet.TheVariants.{Plan, Init, List as ListSessions, Restore, Drop, Refs}
+use Rattle.sd_base.specs.declared.words.Quiet.TheVariants.{Plan, Init, List as ListSessions, Restore, Drop, Refs, Audit}
 use Rattle.sd_base.proofs.Covering.{concat-chunks_of}
 use Rattle.sd_base.proofs.HeldStates.{length-with_drop}
 use Rattle.sd_base.proofs.Ranges.{IsValid-from_none}
@@ -254,6 +254,7 @@ lawful-after (Ok (Quiet (Restore name))) named fits (Some state) input lawful =
 lawful-after (Ok (Quiet (Drop name))) named fits (Some state) input lawful =
     lawful-drop name (live_session_named (sessions_in state) name) state lawful (found-live (sessions_in state) name)
 lawful-after (Ok (Quiet Refs)) named fits (Some state) input lawful = lawful
+lawful-after (Ok (Quiet Audit)) named fits (Some state) input lawful = lawful
 
 -- ---- runs that are not done
 
@@ -313,6 +314,8 @@ state-stays (Ok (Quiet (Drop name))) (Some state) input undone =
     drop-stays name (live_session_named (sessions_in state) name) state undone
 state-stays (Ok (Quiet Refs)) None input undone = refl
 state-stays (Ok (Quiet Refs)) (Some state) input undone = absurd (undone refl)
+state-stays (Ok (Quiet Audit)) None input undone = refl
+state-stays (Ok (Quiet Audit)) (Some state) input undone = absurd (undone refl)
 
 -- ---- what was taken in
 

@@ -6,7 +6,7 @@ use Rattle.sd_base.specs.Names.{IsName}
 use Rattle.sd_base.specs.declared.how.How.{How}
 use Rattle.sd_base.specs.declared.limits.TheConstants.{MAX_WORKERS, MAX_SEGMENT, MIN_BATCH, MAX_BATCH, MAX_SHARDS, MAX_BLOCKS}
 use Rattle.sd_base.specs.declared.raw_params.RawParams.{RawParams}
-use Rattle.sd_base.specs.declared.words.Quiet.TheVariants.{Plan, Init, List, Restore, Drop, Refs}
+use Rattle.sd_base.specs.declared.words.Quiet.TheVariants.{Plan, Init, List, Restore, Drop, Refs, Audit}
 use Rattle.sd_base.specs.declared.words.Command.{Command}
 use Rattle.sd_base.specs.declared.words.Command.TheVariants.{Quiet, Ingest, Bulk}
 
@@ -41,6 +41,7 @@ HasNumbersInRange (Quiet List) = ⊤
 HasNumbersInRange (Quiet (Restore name)) = ⊤
 HasNumbersInRange (Quiet (Drop name)) = ⊤
 HasNumbersInRange (Quiet Refs) = ⊤
+HasNumbersInRange (Quiet Audit) = ⊤
 HasNumbersInRange (Ingest name how) = IsHow how
 HasNumbersInRange (Bulk seed blocks how) = IsSeed seed × AreBlocks blocks × IsHow how
 
@@ -52,6 +53,7 @@ HasSessionName (Quiet List) = ⊤
 HasSessionName (Quiet (Restore name)) = IsName name
 HasSessionName (Quiet (Drop name)) = IsName name
 HasSessionName (Quiet Refs) = ⊤
+HasSessionName (Quiet Audit) = ⊤
 HasSessionName (Ingest name how) = IsName name
 HasSessionName (Bulk seed blocks how) = IsName (bulk_name seed blocks)
 
@@ -71,5 +73,6 @@ HasRawParams (Quiet List) = ⊤
 HasRawParams (Quiet (Restore name)) = ⊤
 HasRawParams (Quiet (Drop name)) = ⊤
 HasRawParams (Quiet Refs) = ⊤
+HasRawParams (Quiet Audit) = ⊤
 HasRawParams (Ingest name how) = ⊤
 HasRawParams (Bulk seed blocks how) = ⊤

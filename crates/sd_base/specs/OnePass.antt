@@ -2,6 +2,7 @@
 -- before it and its input alone. No worker, segment, size of a read or order of steps enters. All
 -- rules here are this project's own.
 use Rattle.std.specs.Prelude.{ℕ, nat_le, nat_lt, List, [], length, Option, Some, None, is_some, Result, Ok, Err, if◌then◌else◌}
+use Rattle.sd_base.specs.Audits.{audit_text, counts_of_state}
 use Rattle.sd_base.specs.Cutting.{chunks_of}
 use Rattle.sd_base.specs.Generator.{bulk_input, bulk_name}
 use Rattle.sd_base.specs.Parameters.{bad_parameter}
@@ -13,7 +14,7 @@ use Rattle.sd_base.specs.declared.limits.TheConstants.{MAX_CHUNKS, MAX_INPUT, MA
 use Rattle.sd_base.specs.declared.params.BadParams.{BadParams as BadParameter}
 use Rattle.sd_base.specs.declared.raw_params.RawParams.{RawParams}
 use Rattle.sd_base.specs.declared.words.BadWords.{BadWords as Refusal}
-use Rattle.sd_base.specs.declared.words.Quiet.TheVariants.{Plan, Init, List as ListSessions, Restore, Drop, Refs}
+use Rattle.sd_base.specs.declared.words.Quiet.TheVariants.{Plan, Init, List as ListSessions, Restore, Drop, Refs, Audit}
 use Rattle.sd_base.specs.declared.words.Command.{Command}
 use Rattle.sd_base.specs.declared.words.Command.TheVariants.{Quiet, Ingest, Bulk}
 use Rattle.sd_base.specs.declared.outcome.Outcome.{Outcome}
@@ -100,6 +101,10 @@ pass_of_drop name (Some k) state =
 abbrev pub pass_of_refs : State → Pass
 pass_of_refs state = success (Some state) (refs_text (reference_rows_of_state state))
 
+-- `audit` in a store
+abbrev pub pass_of_audit : State → Pass
+pass_of_audit state = success (Some state) (audit_text (counts_of_state state))
+
 -- A command on a state and an input. `bulk` makes its own input, and takes it in as `ingest` does.
 abbrev pub pass_of_command : Command → Option State → List ℕ → Pass
 pass_of_command (Quiet (Plan params _ _)) state input = pass_of_plan (bad_parameter params) params state input
@@ -113,6 +118,7 @@ pass_of_command (Quiet (Restore name)) state input =
 pass_of_command (Quiet (Drop name)) state input =
     in_store (λ store. pass_of_drop name (live_session_named (sessions_in store) name) store) state
 pass_of_command (Quiet Refs) state input = in_store pass_of_refs state
+pass_of_command (Quiet Audit) state input = in_store pass_of_audit state
 
 -- what the words name, on a state and an input
 abbrev pub pass_of : Result Command Refusal → Option State → List ℕ → Pass

@@ -240,6 +240,19 @@ pub one_pass-refs_after_both_drops :
 unfolding digits
 one_pass-refs_after_both_drops = refl
 
+-- a dropped session still counts as taken in, and its chunks as stored
+pub one_pass-audit_after_a_drop :
+    one_pass (codes "audit" ∷ []) (Some once_dropped) []
+    ≡ success (Some once_dropped) (codes "ok 1 live 2 ingested 2 chunks 1 containers" ++ 10 ∷ [])
+unfolding digits
+one_pass-audit_after_a_drop = refl
+
+pub one_pass-audit_of_no_sessions :
+    one_pass (codes "audit" ∷ []) (Some no_sessions) []
+    ≡ success (Some no_sessions) (codes "ok 0 live 0 ingested 0 chunks 0 containers" ++ 10 ∷ [])
+unfolding digits
+one_pass-audit_of_no_sessions = refl
+
 -- an empty input is a session with no chunk
 abbrev pub one_empty : State
 one_empty = record { params = small_params 0; generation = 0; events = ingested (codes "e") [] ∷ [] }
@@ -257,6 +270,12 @@ one_pass-list_empty = refl
 pub one_pass-restore_empty : one_pass (codes "restore" ∷ codes "e" ∷ []) (Some one_empty) [] ≡ success (Some one_empty) []
 one_pass-restore_empty = refl
 
+pub one_pass-audit_empty :
+    one_pass (codes "audit" ∷ []) (Some one_empty) []
+    ≡ success (Some one_empty) (codes "ok 1 live 1 ingested 0 chunks 0 containers" ++ 10 ∷ [])
+unfolding digits
+one_pass-audit_empty = refl
+
 -- without a store, these commands are refused, whatever the input
 pub one_pass-ingest_in_no_store :
     (input : List ℕ) → one_pass (codes "ingest" ∷ codes "a" ∷ []) None input ≡ refusal None NoStore
@@ -273,6 +292,9 @@ one_pass-drop_in_no_store = refl
 
 pub one_pass-refs_in_no_store : one_pass (codes "refs" ∷ []) None [] ≡ refusal None NoStore
 one_pass-refs_in_no_store = refl
+
+pub one_pass-audit_in_no_store : one_pass (codes "audit" ∷ []) None [] ≡ refusal None NoStore
+one_pass-audit_in_no_store = refl
 
 -- bad words are refused before the store is looked at
 pub one_pass-bad_name :

@@ -9,7 +9,7 @@ use Rattle.sd_base.specs.declared.raw_params.RawParams.{RawParams}
 use Rattle.sd_base.specs.declared.words.BadKind.{BadKind}
 use Rattle.sd_base.specs.declared.words.BadKind.TheVariants.{Missing, Command as NoCommand, Name as NoName, Number as NoNumber}
 use Rattle.sd_base.specs.declared.words.BadWords.{BadWords}
-use Rattle.sd_base.specs.declared.words.Quiet.TheVariants.{Plan, Init, List as ListSessions, Restore, Drop, Refs}
+use Rattle.sd_base.specs.declared.words.Quiet.TheVariants.{Plan, Init, List as ListSessions, Restore, Drop, Refs, Audit}
 use Rattle.sd_base.specs.declared.words.Command.{Command}
 use Rattle.sd_base.specs.declared.words.Command.TheVariants.{Quiet, Ingest, Bulk}
 
@@ -162,6 +162,10 @@ drop_of words = session_command_of [] (λ name more. Quiet (Drop name)) words
 abbrev pub refs_of : List (List ℕ) → Result Command BadWords
 refs_of words = unless_bad (first_bad_word [] [] 1 words) (Quiet Refs)
 
+-- the words after `audit`
+abbrev pub audit_of : List (List ℕ) → Result Command BadWords
+audit_of words = unless_bad (first_bad_word [] [] 1 words) (Quiet Audit)
+
 -- the command that the words name, or the first word that fails
 abbrev pub command_of : List (List ℕ) → Result Command BadWords
 command_of [] = bad_word Missing 0
@@ -174,4 +178,5 @@ command_of (word ∷ words) =
     else if bytes_eq word (codes "restore") then restore_of words
     else if bytes_eq word (codes "drop") then drop_of words
     else if bytes_eq word (codes "refs") then refs_of words
+    else if bytes_eq word (codes "audit") then audit_of words
     else bad_word NoCommand 0

@@ -53,6 +53,8 @@ pub enum Quiet {
     },
     /// Prints for each stored chunk how many places of live sessions name it.
     Refs,
+    /// Looks whether the files of the store hold a lawful state, and prints its counts.
+    Audit,
 }
 
 /// A command, as the words of the command line give it.
