@@ -52,7 +52,7 @@ TWO_FLAWS = one([LONGER, E], [1, 0])
 
 KINDS = {
     "a container too short and a mark": (
-        without_mark(twice()) | {CONTAINER: b"XSCP" + bytes(75)},
+        twice() | {CONTAINER: b"XSCP" + bytes(75)},
         "damaged container 0 needs 80 has 79",
     ),
     "a recipe and a mark": (without_mark(one([A, E], [0, 2])), "damaged recipe 0 1"),

@@ -40,7 +40,7 @@ def store_of(events, params=SPARSE_ZERO):
             pack(files, 0, [len(it) for it in chunks], event.fresh)
             chunks += event.fresh
             fresh = [NewChunk(len(it), sha256(it).digest()) for it in event.fresh]
-            length = sum(len(chunks[it]) for it in event.recipe)
+            length = sum(len(chunks[it]) for it in event.recipe if it < len(chunks))
             record = Ingest(b"s%d" % number, length, fresh, event.recipe)
         append_record(files, 0, used, record)
         used = len(files["book.0"])
