@@ -187,9 +187,9 @@ def permissions_test(function):
 
 # Which commands have failed if a file has this mode. Sizes alone need no permission on a file.
 MODES = [
-    ("head", 0, ["list", "restore", "refs", "ingest", "drop", "bulk"]),
-    ("book.0", 0, ["list", "restore", "refs", "ingest", "drop", "bulk"]),
-    ("container.0.0", 0, ["restore", "ingest", "bulk"]),
+    ("head", 0, ["list", "restore", "refs", "audit", "ingest", "drop", "bulk"]),
+    ("book.0", 0, ["list", "restore", "refs", "audit", "ingest", "drop", "bulk"]),
+    ("container.0.0", 0, ["restore", "audit", "ingest", "bulk"]),
     ("seal.0", 0, ["ingest", "drop", "bulk"]),
     ("head", 0o400, []),
     ("book.0", 0o400, ["ingest", "drop", "bulk"]),

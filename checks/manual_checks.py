@@ -93,7 +93,7 @@ def candidates(page):
     """Words that may be commands: those of the page, and each word in the code between quotes."""
     code = (it.read_text() for it in ROOT.glob("crates/*/src/*.rt"))
     found = {*chain.from_iterable(re.findall(r'"([a-z]+)"', it) for it in code)}
-    return sorted({*found, *commands_in(page), "audit", "check", "help", "prune"})
+    return sorted({*found, *commands_in(page), "check", "help", "prune", "verify"})
 
 
 def is_command(word):
@@ -167,6 +167,7 @@ PRINTED = {
     "restore": {},
     "drop": {"name": "a", "places": "4"},
     "refs": {"chunk": "1", "count": "2", "length": "8"},
+    "audit": {"live": "2", "ingested": "2", "chunks": "2", "containers": "1"},
     "plan": {"offset": "0", "length": "214"},
 }
 
