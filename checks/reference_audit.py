@@ -89,6 +89,13 @@ def look_at_cuts(store, chunks):
                 raise Refusal(f"damaged cut {session} {place}")
 
 
+def counts_of(store):
+    """What `audit` prints of a store without a flaw."""
+    lengths = store.book.lengths()
+    sessions = f"{len(store.book.live)} live {len(store.book.sessions)} ingested"
+    return f"ok {sessions} {len(lengths)} chunks {len(sizes_of(lengths))} containers\n".encode()
+
+
 def audit(files):
     """What `audit` prints. Raises a refusal if there is no store, or at the first flaw."""
     store = opened(files)
@@ -98,10 +105,7 @@ def audit(files):
     look_at_twins(chunks)
     look_at_order(store)
     look_at_cuts(store, chunks)
-    live, ingested = len(store.book.live), len(store.book.sessions)
-    containers = len(sizes_of(store.book.lengths()))
-    line = f"ok {live} live {ingested} ingested {len(chunks)} chunks {containers} containers\n"
-    return line.encode()
+    return counts_of(store)
 
 
 # Known values.
