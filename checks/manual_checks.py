@@ -30,6 +30,7 @@ from harness import (
     position_of,
     run,
 )
+from made_stores import FLAWED
 from manual_page import (
     commands_in,
     damages_in,
@@ -425,6 +426,9 @@ def damage_runs():
     yield damaged({"book.0": recipe, "seal.0": b"S"})
     yield damaged({"container.0.0": container[:-1]})
     yield damaged({"container.0.0": container[:-1] + b"x"}, ["restore", "a"])
+    yield damaged({"container.0.0": b"X" + container[1:]}, ["audit"])
+    for name in ("two equal chunks", "a chunk that comes too early", "a chunk with a candidate in it"):
+        yield damaged(FLAWED[name][0], ["audit"])
 
 
 def store_runs():
