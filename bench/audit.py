@@ -117,7 +117,8 @@ def print_times(bench, stores):
     for name, beside, yardstick, most in rows:
         took, other = bench.seconds[name], bench.seconds[yardstick]
         what = f"{whats[name]}, {stores[name].chunks:,} chunks"
-        print_row(what, "`audit`", f"{took:.3f}", beside, f"{other:.3f}", f"{took / other:.2f}", f"{most}")
+        ratio = f"{took / other:.2f}"
+        print_row(what, "`audit`", f"{took:.3f}", beside, f"{other:.3f}", ratio, f"{most}")
 
 
 def print_peaks(bench, stores):

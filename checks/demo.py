@@ -53,6 +53,7 @@ def with_other_notes(filter_of_notes):
     return f'"{PROGRAM}" "$@" 2>noted; status=$?; {filtered}; exit $status'
 
 
+OTHER_CHUNK = with_other_notes("sed 's/chunk 1/chunk 2/'")
 PLAN, LIST, INIT, REFS, AUDIT = "plan ", "list ", "init ", "refs ", "audit "
 WRONG_OUTPUT = [
     ("no line", PLAN, through("sed d")),
@@ -105,11 +106,11 @@ WRONG_OUTPUT = [
     ("a wrong status of audit", AUDIT, f'"{PROGRAM}" "$@"; exit 3'),
     ("an audit that notices no damage", AUDIT, if_damaged("exit 0")),
     ("an audit that prints and is refused", AUDIT, if_damaged("echo ok")),
-    ("another damage", AUDIT, with_other_notes("sed 's/chunk 1/chunk 2/'")),
+    ("another damage", AUDIT, OTHER_CHUNK),
     ("another name that is found", AUDIT, with_other_notes("sed 's/.$/x/'")),
     ("a restore that notices no damage", "restore tuesday", if_damaged("exit 0")),
     ("a byte after a damage", "restore tuesday", if_damaged("echo")),
-    ("a restore of another damage", "restore tuesday", with_other_notes("sed 's/chunk 1/chunk 2/'")),
+    ("a restore of another damage", "restore tuesday", OTHER_CHUNK),
     ("a wrong status of init", INIT, f'"{PROGRAM}" "$@"; exit 4'),
     ("a wrong status of list", LIST, f'"{PROGRAM}" "$@"; exit 3'),
     ("no store", INIT, "echo ready"),

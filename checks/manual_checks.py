@@ -427,8 +427,9 @@ def damage_runs():
     yield damaged({"container.0.0": container[:-1]})
     yield damaged({"container.0.0": container[:-1] + b"x"}, ["restore", "a"])
     yield damaged({"container.0.0": b"X" + container[1:]}, ["audit"])
-    for name in ("two equal chunks", "a chunk that comes too early", "a chunk with a candidate in it"):
-        yield damaged(FLAWED[name][0], ["audit"])
+    flaws = ["two equal chunks", "a chunk that comes too early", "a chunk with a candidate in it"]
+    for flaw in flaws:
+        yield damaged(FLAWED[flaw][0], ["audit"])
 
 
 def store_runs():
