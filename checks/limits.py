@@ -1,20 +1,20 @@
 """Which inputs and sessions are too many or too long for a store, the most that it takes, and the
 memory of an audit."""
 
-import os
 import struct
-import subprocess
+import sys
 import tempfile
 from dataclasses import replace
 from hashlib import sha256
 from pathlib import Path
+from subprocess import DEVNULL
 
 from folders import FOLDER, Twin, expect_committed, expect_files
 from full_stores import containers_of_zeros, empty_sessions, record_of_zeros, write_book
 from harness import (
     PROGRAM,
     Mismatch,
-    Run,
+    ended,
     expect,
     expect_refusal,
     expect_same,
@@ -165,22 +165,27 @@ def chunks_up_to_their_number_are_taken_in():
 # What an audit takes, at the largest numbers.
 
 MEGABYTE = 10**6
+# A process that starts another is counted in its peak. So a small one starts the program.
+MEASURING = """
+import resource, subprocess, sys
+status = subprocess.run(sys.argv[2:]).returncode
+with open(sys.argv[1], "w") as file:
+    file.write(str(resource.getrusage(resource.RUSAGE_CHILDREN).ru_maxrss))
+sys.exit(status)
+"""
 
 
 def peak_of_an_audit(note=None, line=b""):
     """Runs an audit, expects how it ends, and returns its peak memory in bytes."""
-    with tempfile.TemporaryFile() as output, tempfile.TemporaryFile() as notes:
-        process = subprocess.Popen([PROGRAM, FOLDER, "audit"], stdout=output, stderr=notes)
-        _, status, usage = os.wait4(process.pid, 0)
-        process.returncode = os.waitstatus_to_exitcode(status)
-        output.seek(0)
-        notes.seek(0)
-        came = Run(process.returncode, output.read(), notes.read())
+    with tempfile.NamedTemporaryFile("r") as peak:
+        starter = [sys.executable, "-c", MEASURING, peak.name]
+        came = ended([*starter, PROGRAM, FOLDER, "audit"], stdin=DEVNULL, capture_output=True)
+        kibibytes = int(peak.read())
     if note is None:
         expect(came, output=line)
     else:
         expect_refusal(came, note)
-    return usage.ru_maxrss * 1024
+    return kibibytes * 1024
 
 
 def expect_peak(chunks, places, came):
