@@ -8,7 +8,16 @@ import subprocess
 from dataclasses import replace
 from random import Random
 
-from folders import COMMANDS, FOLDER, LONG, TEXT, expect_files, with_ingest, with_tails
+from folders import (
+    COMMANDS,
+    FOLDER,
+    LONG,
+    READING,
+    TEXT,
+    expect_files,
+    with_ingest,
+    with_tails,
+)
 from harness import PROGRAM, Mismatch, expect_same
 from reference import DEFAULTS, SPARSE_ZERO, keys_of
 from reference_store import (
@@ -18,6 +27,7 @@ from reference_store import (
     init,
     opened,
     references,
+    sizes_of,
     twice,
     write_files,
 )
@@ -111,7 +121,7 @@ def reading_and_refused_commands_change_no_file():
         expect_same(f"the status of {words}", wanted, status)
         expect_same("the changes", [], [it for it in calls if it.kind in CHANGES])
 
-    for words in (["list"], ["restore", "a"], ["refs"], ["plan"]):
+    for words in [*READING, ["plan"]]:
         expect_no_change(words, TEXT, twice(), 0)
     expect_no_change(["init"], b"", twice(), 4)
     expect_no_change(["ingest", "a"], TEXT, twice(), 5)
@@ -259,3 +269,63 @@ def workers_are_threads():
             came = threads_of([FOLDER, *words, *keys], text)
             if not least <= came <= most:
                 raise Mismatch(f"{words} {keys}: wanted {least} to {most} threads, came {came}")
+
+
+# Audits.
+
+
+def audited_store():
+    """The files of a store, how many chunks it has, and the sizes of its containers."""
+    files, draw = {}, Random(47)
+    init(files, replace(DEFAULTS, min=5000, max=5000))
+    ingest(files, b"a", draw.randbytes(9_000_000))
+    ingest(files, b"b", bytes(12_000))
+    book = opened(files).book
+    return files, len(book.chunks), sizes_of(book.lengths())
+
+
+def bytes_read(trace, name):
+    """How many bytes of a file of the store a run read."""
+    pattern = rf"\bp?readv?(?:64)?\(\d+<[^>]*/{FOLDER}/{re.escape(name)}>.* = (\d+)$"
+    return sum(map(int, re.findall(pattern, trace, re.MULTILINE)))
+
+
+@traced_test
+def audit_reads_each_byte_of_a_container_once():
+    """What comes after the chunks is not read, and a chunk costs at most one call."""
+    files, chunks, sizes = audited_store()
+    tails = {f"container.0.{number}": bytes(300) for number in range(len(sizes))}
+    for before in (files, with_tails(files, tails)):
+        calls, status = calls_of(["audit"], b"", before)
+        expect_same("the status", 0, status)
+        with open("trace") as file:
+            trace = file.read()
+        names = [f"container.0.{number}" for number in range(len(sizes))]
+        expect_same("the bytes read", sizes, [bytes_read(trace, it) for it in names])
+        reads = [it for it in calls if it.file in names and it.kind == "read"]
+        expect_at_most("reads of containers", chunks + len(sizes), reads)
+        for name in names:
+            expect_at_most(f"times that {name} is opened", 2, indexes_of(calls, name, ("open",)))
+
+
+@traced_test
+def reading_commands_open_no_file_for_writing():
+    """A file that cannot be written, or a disk that must not be, is read all the same."""
+    for words in READING:
+        write_files(FOLDER, twice())
+        expect_same(f"the status of {words}", 0, traced([FOLDER, *words], b"", "trace"))
+        with open("trace") as trace:
+            opens = [it for it in trace if re.search(rf"\bopenat?\(.*{FOLDER}/", it)]
+        expect_same(f"whether {words} opens files", True, bool(opens))
+        writable = [it for it in opens if re.search("O_WRONLY|O_RDWR|O_CREAT|O_TRUNC", it)]
+        expect_same(f"what {words} opens for writing", [], writable)
+
+
+@traced_test
+def chunks_of_an_audit_are_shared_by_threads():
+    """There are four workers: three threads beside the first for each part that they share."""
+    files, _, _ = audited_store()
+    write_files(FOLDER, files)
+    came = threads_of([FOLDER, "audit"], b"")
+    if came < 3:
+        raise Mismatch(f"wanted at least 3 threads, came {came}")

@@ -1,4 +1,4 @@
-"""What `list`, `restore` and `ingest` answer if something is wrong with the files of a store."""
+"""What the commands answer if something is wrong with the files of a store."""
 
 from hashlib import sha256
 from random import Random
@@ -147,6 +147,7 @@ def changed_chunk_is_named_after_the_chunks_before_it():
     note = f"damaged chunk 1 kept {kept} found {found}"
     twin = Twin(changed(twice(), "container.0.0", 72, 1))
     twin.list()
+    twin.expect(["audit"], refused(note))
     twin.expect(["restore", "b"], refused(note, bytes(192)))
     # An input that has the chunk is refused, and one that has it not is taken in.
     twin.expect(["ingest", "c"], refused(note), bytes(200))
@@ -155,8 +156,9 @@ def changed_chunk_is_named_after_the_chunks_before_it():
 
 
 @test
-def wrong_header_of_a_container_is_not_looked_at():
+def wrong_header_of_a_container_matters_to_an_audit_alone():
     twin = Twin(changed(twice(), "container.0.0", 0, 0))
+    twin.expect(["audit"], refused("damaged mark 0"))
     twin.list()
     twin.restore("a")
 

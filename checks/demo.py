@@ -32,12 +32,29 @@ def through(filter_of_output):
 def demo_passes_what_the_program_does():
     came = demo_with("plan ", through("cat"))
     expect_same("status and notes", (0, b""), (came.status, came.notes))
-    last = came.output.splitlines()[-1]
-    if b"has 108902 bytes and added 11760." not in last:
-        raise Mismatch(f"wanted how many bytes the second version added, came {last}")
+    for part in (
+        b"has 108902 bytes and added 11760.\n",
+        b"\nok 1 live 2 ingested 13 chunks 1 containers\n",
+        b"only the 4503 bytes before it.\n",
+    ):
+        expect_same(f"how often the demo says {part}", 1, came.output.count(part))
+    damage = b"\nbackup: damaged chunk 1 kept "
+    expect_same("how often the demo shows the damage", 2, came.output.count(damage))
 
 
-PLAN, LIST, INIT, REFS = "plan ", "list ", "init ", "refs "
+def if_damaged(doing):
+    """What runs the program, and does something else too if it finds a damage."""
+    return f'"{PROGRAM}" "$@"; status=$?; [ $status != 7 ] || {{ {doing}; }}; exit $status'
+
+
+def with_other_notes(filter_of_notes):
+    """What runs the program and prints its notes through a filter."""
+    filtered = f"{filter_of_notes} <noted >&2"
+    return f'"{PROGRAM}" "$@" 2>noted; status=$?; {filtered}; exit $status'
+
+
+OTHER_CHUNK = with_other_notes("sed 's/chunk 1/chunk 2/'")
+PLAN, LIST, INIT, REFS, AUDIT = "plan ", "list ", "init ", "refs ", "audit "
 WRONG_OUTPUT = [
     ("no line", PLAN, through("sed d")),
     ("one line", PLAN, through("sed -n 1p")),
@@ -81,6 +98,19 @@ WRONG_OUTPUT = [
     ("a wrong length of a chunk", REFS, through("sed '1s/ 4503 / 4504 /'")),
     ("a wrong name of a chunk", REFS, through("sed '1s/.$/x/'")),
     ("a wrong status of refs", REFS, f'"{PROGRAM}" "$@"; exit 3'),
+    ("no line of an audit", AUDIT, through("sed d")),
+    ("a wrong number of live sessions", AUDIT, through("sed 's/1 live/2 live/'")),
+    ("a wrong number of sessions", AUDIT, through("sed 's/2 ingested/1 ingested/'")),
+    ("a wrong number of chunks", AUDIT, through("sed 's/13 chunks/12 chunks/'")),
+    ("a wrong number of containers", AUDIT, through("sed 's/1 containers/2 containers/'")),
+    ("a wrong status of audit", AUDIT, f'"{PROGRAM}" "$@"; exit 3'),
+    ("an audit that notices no damage", AUDIT, if_damaged("exit 0")),
+    ("an audit that prints and is refused", AUDIT, if_damaged("echo ok")),
+    ("another damage", AUDIT, OTHER_CHUNK),
+    ("another name that is found", AUDIT, with_other_notes("sed 's/.$/x/'")),
+    ("a restore that notices no damage", "restore tuesday", if_damaged("exit 0")),
+    ("a byte after a damage", "restore tuesday", if_damaged("echo")),
+    ("a restore of another damage", "restore tuesday", OTHER_CHUNK),
     ("a wrong status of init", INIT, f'"{PROGRAM}" "$@"; exit 4'),
     ("a wrong status of list", LIST, f'"{PROGRAM}" "$@"; exit 3'),
     ("no store", INIT, "echo ready"),

@@ -3,9 +3,12 @@
 The calls are disturbed by strace. If it cannot be used, the tests are not tried.
 """
 
+from itertools import count
+
 from folders import (
     COMMANDS,
     FOLDER,
+    READING,
     TEXT,
     expect_committed,
     expect_files,
@@ -15,11 +18,12 @@ from folders import (
     with_tails,
 )
 from harness import Mismatch, each_row, expect, expect_same, run
+from reference_audit import audit
 from reference_store import files_in, list_sessions, opened, restore, twice, write_files
 from tracing import disturbed, each_disturbance, traced_test
 
 WRITING = ["openat", "write", "ftruncate", "fdatasync", "fsync"]
-READING = ["openat", "read", "pread64"]
+READS = ["openat", "read", "pread64"]
 AGAIN = ["read", "pread64", "write"]
 
 INGEST = ["ingest", "n"]
@@ -38,6 +42,7 @@ ROWS = [
 ]
 
 DONE = (0, [])
+DAMAGED = 7
 STORE_FAILED = (12, [b"backup: store failed"])
 
 
@@ -48,6 +53,7 @@ def expect_before_or_after(before, after):
     expect(came, output=list_sessions(committed))
     for name in opened(committed).book.live:
         expect(run([FOLDER, "restore", name]), output=restore(committed, name))
+    expect(run([FOLDER, "audit"]), output=audit(committed))
     came = run([FOLDER, "ingest", "m"], TEXT, changes=FOLDER)
     expect_same("the status of the next ingest", 0, came.status)
     expect_files(with_ingest(committed, b"m"), files_in(FOLDER))
@@ -104,9 +110,28 @@ def append_of_the_seal_that_fails_leaves_the_state_before():
 
 @traced_test
 def each_call_that_reads_and_fails_is_said():
-    for words in (["list"], ["restore", "a"], ["refs"]):
-        for call, came in each_disturbance(words, READING, "error=EIO", twice()):
+    for words in READING:
+        for call, came in each_disturbance(words, READS, "error=EIO", twice()):
             expect_same(f"the end of {words} if {call} fails", STORE_FAILED, came)
+            expect_files(twice(), files_in(FOLDER))
+
+
+@traced_test
+def read_that_returns_too_little_is_no_end_of_an_audit():
+    """A container that is cut while it is read: what is not there is not taken for right."""
+    ends = 0
+    for call in ("read", "pread64"):
+        for number in count(1):
+            write_files(FOLDER, with_ingest(twice()))
+            how = f"retval=0:when={number}"
+            came = disturbed(["audit"], call, how, ["container.0.0"])
+            if came is None:
+                break
+            if came[0] not in (DAMAGED, STORE_FAILED[0]):
+                raise Mismatch(f"with {call} {number} ended early: came {came}")
+            ends += 1
+    if ends < 2:
+        raise Mismatch(f"wanted at least 2 reads of the container, came {ends}")
 
 
 @traced_test

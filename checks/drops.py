@@ -249,7 +249,7 @@ def session_is_dropped_also_if_no_more_can_be_taken_in():
 @test
 def commands_without_input_read_none():
     write_files(FOLDER, twice())
-    for words in (["refs"], ["drop", "x"], ["drop", "a"]):
+    for words in (["refs"], ["audit"], ["drop", "x"], ["drop", "a"]):
         with file_of(b"abc") as source:
             run([FOLDER, *words], source, changes=FOLDER)
             expect_same(f"bytes that {words} took", 0, position_of(source))

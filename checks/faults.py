@@ -3,6 +3,7 @@
 import os
 import socket
 import subprocess
+from dataclasses import replace
 from pathlib import Path
 from random import Random
 
@@ -32,6 +33,7 @@ from harness import (
 )
 from pipes import limiting_files, with_memory
 from reference import DEFAULTS, SPARSE_ZERO, keys_of, plan
+from reference_audit import audit
 from reference_store import (
     OPEN_HEAD,
     files_in,
@@ -187,9 +189,9 @@ def permissions_test(function):
 
 # Which commands have failed if a file has this mode. Sizes alone need no permission on a file.
 MODES = [
-    ("head", 0, ["list", "restore", "refs", "ingest", "drop", "bulk"]),
-    ("book.0", 0, ["list", "restore", "refs", "ingest", "drop", "bulk"]),
-    ("container.0.0", 0, ["restore", "ingest", "bulk"]),
+    ("head", 0, ["list", "restore", "refs", "audit", "ingest", "drop", "bulk"]),
+    ("book.0", 0, ["list", "restore", "refs", "audit", "ingest", "drop", "bulk"]),
+    ("container.0.0", 0, ["restore", "audit", "ingest", "bulk"]),
     ("seal.0", 0, ["ingest", "drop", "bulk"]),
     ("head", 0o400, []),
     ("book.0", 0o400, ["ingest", "drop", "bulk"]),
@@ -392,6 +394,23 @@ def memory_that_is_too_little_leaves_what_was_committed():
     expect_same("statuses from too little memory to enough", {0, 13}, statuses)
 
 
+@test
+def audit_in_too_little_memory_says_so():
+    files, statuses = {}, set()
+    init(files, replace(DEFAULTS, min=4000, max=4000))
+    ingest(files, b"a", Random(46).randbytes(12_000_000))
+    write_files(FOLDER, files)
+    line = b"ok 1 live 1 ingested 3000 chunks 3 containers\n"
+    for kibibytes in range(8_000, 100_000, 4_000):
+        came = run([FOLDER, "audit"], starter=with_memory(kibibytes))
+        statuses.add(came.status)
+        if came.status == 0:
+            expect(came, output=line)
+        else:
+            expect_refusal(came, "out of memory")
+    expect_same("statuses from too little memory to enough", {0, 13}, statuses)
+
+
 # Threads.
 
 # The limit on threads does not hold root back, so another user runs the program. It may open all
@@ -435,5 +454,6 @@ def workers_without_threads_do_the_same():
         expect(run(words, text, starter=starter, changes=FOLDER), *line)
         expect_files(after, files_in(FOLDER))
         expect(run([FOLDER, "restore", "n"], starter=starter), output=text)
+        expect(run([FOLDER, "audit"], starter=starter), *wanted_run(audit, after))
 
     each_row([(threads,) for threads in (1, 2, 3, 5)], expect_row)

@@ -6,6 +6,7 @@ from functools import lru_cache
 import reference_store
 from harness import Mismatch, Run, expect, run, status_of
 from reference import DEFAULTS, SPARSE_ZERO, keys_of
+from reference_audit import audit
 from reference_bulk import bulk_input
 from reference_store import (
     MAX_CHUNK,
@@ -27,7 +28,7 @@ LONG = replace(DEFAULTS, min=MAX_CHUNK, max=MAX_CHUNK)
 # What the commands print over the store `twice`, if `ingest` has this input. It has a chunk of the
 # store and a new one. `bulk` makes its own.
 INIT = ["init", *keys_of(SPARSE_ZERO)]
-READING = [["list"], ["restore", "a"], ["refs"]]
+READING = [["list"], ["restore", "a"], ["refs"], ["audit"]]
 COMMANDS = [*READING, ["ingest", "n"], ["drop", "a"], ["bulk", "7", "1"]]
 TEXT = bytes(64) + b"abc" * 50
 LISTED = b"0 a 200 4\n1 b 200 4\n"
@@ -37,6 +38,7 @@ OUTPUTS = {
     "list": LISTED,
     "restore": bytes(200),
     "refs": references_of_twice(6, 2),
+    "audit": b"ok 2 live 2 ingested 2 chunks 1 containers\n",
     "ingest": INGESTED,
     "drop": b"dropped a 4 places\n",
     "bulk": b"ingested bulk.7.1 65536 bytes 259 places 259 new\n",
@@ -156,6 +158,11 @@ class Twin:
     def refs(self):
         wanted = wanted_run(reference_store.references, self.files)
         self.expect(["refs"], wanted)
+        return wanted
+
+    def audit(self):
+        wanted = wanted_run(audit, self.files)
+        self.expect(["audit"], wanted)
         return wanted
 
     def list(self):

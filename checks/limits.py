@@ -1,23 +1,49 @@
-"""Which inputs and sessions are too many or too long for a store, and the most that it takes."""
+"""Which inputs and sessions are too many or too long for a store, the most that it takes, and the
+memory of an audit."""
 
 import struct
+import sys
 import tempfile
+from dataclasses import replace
+from hashlib import sha256
 from pathlib import Path
+from subprocess import DEVNULL
 
 from folders import FOLDER, Twin, expect_committed, expect_files
 from full_stores import containers_of_zeros, empty_sessions, record_of_zeros, write_book
-from harness import expect, expect_refusal, expect_same, file_of, position_of, run, test
+from harness import (
+    PROGRAM,
+    Mismatch,
+    ended,
+    expect,
+    expect_refusal,
+    expect_same,
+    file_of,
+    position_of,
+    run,
+    test,
+)
 from reference import DEFAULTS, LONGEST_INPUT
+from reference_audit import counts_of
 from reference_store import (
+    COMMIT,
+    CONTAINER_HEADER,
     MAX_CHUNKS,
+    MAX_CONTAINER,
     MAX_PLACES,
     MAX_SESSIONS,
     Drop,
     Ingest,
+    body_of_ingest,
+    container_header,
     files_in,
+    opened,
+    sealed,
+    settings_of,
     spelling_of,
     twice,
     u32,
+    write_files,
 )
 
 
@@ -134,3 +160,95 @@ def chunks_up_to_their_number_are_taken_in():
     # A chunk that is stored needs no number.
     came = run([FOLDER, "ingest", "x"], text, changes=FOLDER)
     expect(came, output=ingest_line("x", 131_072, 2, 0))
+
+
+# What an audit takes, at the largest numbers.
+
+MEGABYTE = 10**6
+# A process that starts another is counted in its peak. So a small one starts the program.
+MEASURING = """
+import resource, subprocess, sys
+status = subprocess.run(sys.argv[2:]).returncode
+with open(sys.argv[1], "w") as file:
+    file.write(str(resource.getrusage(resource.RUSAGE_CHILDREN).ru_maxrss))
+sys.exit(status)
+"""
+
+
+def peak_of_an_audit(note=None, line=b""):
+    """Runs an audit, expects how it ends, and returns its peak memory in bytes."""
+    with tempfile.NamedTemporaryFile("r") as peak:
+        starter = [sys.executable, "-c", MEASURING, peak.name]
+        came = ended([*starter, PROGRAM, FOLDER, "audit"], stdin=DEVNULL, capture_output=True)
+        kibibytes = int(peak.read())
+    if note is None:
+        expect(came, output=line)
+    else:
+        expect_refusal(came, note)
+    return kibibytes * 1024
+
+
+def expect_peak(chunks, places, came):
+    most = 64 * MEGABYTE + 150 * chunks + 8 * places
+    if came > most:
+        raise Mismatch(f"{chunks} chunks and {places} places: {came} bytes, and at most {most}")
+
+
+@test
+def audit_of_a_large_store_takes_little_memory():
+    """Containers of 200 MB, whatever their size, take no more than a batch."""
+    Twin().init(DEFAULTS)
+    came = run([FOLDER, "bulk", "1", "4096"], changes=FOLDER)
+    expect_same("the status of bulk", 0, came.status)
+    store = opened(files_in(FOLDER))
+    peak = peak_of_an_audit(line=counts_of(store))
+    expect_peak(len(store.book.chunks), store.book.places, peak)
+
+
+@test
+def most_chunks_are_audited():
+    """Each chunk has 48 bytes: its number, and zeros before it."""
+    chunks = [bytes(40) + struct.pack(">Q", number) for number in range(MAX_CHUNKS)]
+    fresh = b"".join(u32(48) + sha256(it).digest() for it in chunks)
+    recipe = struct.pack(f">{MAX_CHUNKS}I", *range(MAX_CHUNKS))
+    length = 48 * MAX_CHUNKS
+    body = body_of_ingest(b"c", length, MAX_CHUNKS, fresh, MAX_CHUNKS, recipe)
+    in_one = (MAX_CONTAINER - CONTAINER_HEADER) // 48
+    starts = range(0, MAX_CHUNKS, in_one)
+    containers = {
+        f"container.0.{number}": container_header(number) + b"".join(chunks[start : start + in_one])
+        for number, start in enumerate(starts)
+    }
+    head = settings_of(replace(DEFAULTS, min=48, max=48)) + COMMIT
+    files = {"head": head, "seal.0": COMMIT, "book.0": sealed(b"I", body)}
+    write_files(FOLDER, files | containers)
+    # 87,381 chunks of 48 bytes fit into a container.
+    line = b"ok 1 live 1 ingested 4194304 chunks 49 containers\n"
+    expect_peak(MAX_CHUNKS, MAX_CHUNKS, peak_of_an_audit(line=line))
+
+
+@test
+def as_many_equal_chunks_as_a_store_takes_are_noticed():
+    recipe = struct.pack(f">{MAX_CHUNKS}I", *range(MAX_CHUNKS))
+    write_book(
+        [record_of_zeros(b"c", MAX_CHUNKS, MAX_CHUNKS, recipe)],
+        containers_of_zeros(MAX_CHUNKS),
+    )
+    peak = peak_of_an_audit("damaged twin 0 1")
+    expect_peak(MAX_CHUNKS, MAX_CHUNKS, peak)
+
+
+@test
+def as_many_places_as_a_store_takes_are_audited():
+    """Zeros are cut at 65,536 bytes, and the first chunk has one."""
+    recipe = bytes(4 * MAX_PLACES)
+    write_book([record_of_zeros(b"p", 1, MAX_PLACES, recipe)], containers_of_zeros(1))
+    expect_peak(1, MAX_PLACES, peak_of_an_audit("damaged cut 0 0"))
+
+
+@test
+def as_many_sessions_as_a_store_takes_are_audited():
+    drops = [spelling_of(Drop(number)) for number in range(0, MAX_SESSIONS, 2)]
+    write_book([*empty_sessions(MAX_SESSIONS), *drops], {})
+    line = b"ok 2048 live 4096 ingested 0 chunks 0 containers\n"
+    expect_peak(0, 0, peak_of_an_audit(line=line))

@@ -137,7 +137,7 @@ def manual_pages_with_wrong_macros_are_noticed():
 WRONG_COMMANDS = [
     (".It Cm refs\n", ""),
     (".It Cm refs\n", ".It Cm ref\n"),
-    (".It Cm refs\n", ".It Cm audit\n.It Cm refs\n"),
+    (".It Cm refs\n", ".It Cm prune\n.It Cm refs\n"),
     (".Cm drop\n.Ar name\n", ".Cm drop\n"),
     (".Nm\n.Ar store\n.Cm list\n", ""),
 ]

@@ -30,6 +30,7 @@ from harness import (
     position_of,
     run,
 )
+from made_stores import FLAWED
 from manual_page import (
     commands_in,
     damages_in,
@@ -93,7 +94,7 @@ def candidates(page):
     """Words that may be commands: those of the page, and each word in the code between quotes."""
     code = (it.read_text() for it in ROOT.glob("crates/*/src/*.rt"))
     found = {*chain.from_iterable(re.findall(r'"([a-z]+)"', it) for it in code)}
-    return sorted({*found, *commands_in(page), "audit", "check", "help", "prune"})
+    return sorted({*found, *commands_in(page), "check", "help", "prune", "verify"})
 
 
 def is_command(word):
@@ -167,6 +168,7 @@ PRINTED = {
     "restore": {},
     "drop": {"name": "a", "places": "4"},
     "refs": {"chunk": "1", "count": "2", "length": "8"},
+    "audit": {"live": "2", "ingested": "2", "chunks": "2", "containers": "1"},
     "plan": {"offset": "0", "length": "214"},
 }
 
@@ -424,6 +426,10 @@ def damage_runs():
     yield damaged({"book.0": recipe, "seal.0": b"S"})
     yield damaged({"container.0.0": container[:-1]})
     yield damaged({"container.0.0": container[:-1] + b"x"}, ["restore", "a"])
+    yield damaged({"container.0.0": b"X" + container[1:]}, ["audit"])
+    flaws = ["two equal chunks", "a chunk that comes too early", "a chunk with a candidate in it"]
+    for flaw in flaws:
+        yield damaged(FLAWED[flaw][0], ["audit"])
 
 
 def store_runs():

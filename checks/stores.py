@@ -128,6 +128,7 @@ def commands_leave_a_folder_as_they_should():
         (["restore", "a"], b"", set()),
         (["list"], b"", set()),
         (["refs"], b"", set()),
+        (["audit"], b"", set()),
         (["plan"], b"abc", set()),
         (["drop", "a"], b"", {"book.0", "seal.0"}),
     ]
@@ -140,7 +141,8 @@ def commands_leave_a_folder_as_they_should():
 
 @test
 def refused_commands_leave_a_folder_as_it_was():
-    for words in (["list"], ["restore", "a"], ["refs"], ["ingest", "a"], ["drop", "a"]):
+    reading = [["list"], ["restore", "a"], ["refs"], ["audit"]]
+    for words in [*reading, ["ingest", "a"], ["drop", "a"]]:
         expect_refusal(run([STORE, *words], b"abc"), "no store")
     folder_after(["init"])
     folder_after(["ingest", "a"], b"abc")
