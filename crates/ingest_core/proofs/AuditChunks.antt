@@ -1,7 +1,7 @@
 -- A batch of chunks in one text: where they end, what is read of them, and that the text is cut into
 -- them again.
-use Rattle.std.proofs.Common.{◌≡◌, ℕ, ◌+◌, ◌-◌, ◌<◌, ◌≤◌, List, [], ◌∷◌, ◌++◌, take, drop, length, length-append, map, slice_index_or, slice_range, refl, ap, sym, subst, ◌∙◌, arith, IfSome}
-use Rattle.std.specs.Prelude.{Option, None, Some}
+use Rattle.std.proofs.Common.{◌≡◌, inl, inr, ℕ, ◌+◌, ◌-◌, ◌<◌, ◌≤◌, List, [], ◌∷◌, ◌++◌, take, drop, length, length-append, map, slice_index_or, slice_range, refl, ap, sym, subst, ◌∙◌, arith, IfSome}
+use Rattle.std.specs.Prelude.{Err, IsErrAnd, None, OnErr, Option, Result, Some}
 use Rattle.std.specs.List.{All, concat}
 use Rattle.std.proofs.Math.Seq.{drop-append_seam, take-append_seam}
 use Rattle.std.proofs.lemmas.List.{append_assoc, append-nil, drop_more, get_or-drop, length-drop, take_all, take_more, get_or-map, length-map}
@@ -10,12 +10,15 @@ use Rattle.std.proofs.lemmas.List.Folds.{concat-append}
 use Rattle.std.proofs.lemmas.List.Sums.{sum_by-append}
 use Rattle.container_pack.specs.declared.spot.Spot.{Spot}
 use Rattle.edge_traits.specs.Shelf.{content}
+use Rattle.ingest_core.proofs.FaultLemmas.{err-is, err-of, passed-is}
 use Rattle.ingest_core.proofs.Refusals.{count-between}
 use Rattle.ingest_core.specs.AuditChunks.{AreStored, bytes_kept, ends_from, kept_at, lengths_kept, spot_at}
 use Rattle.sd_base.specs.Cutting.{RiseWithin, chunks_between}
 use Rattle.sd_base.specs.declared.file.File.{File}
 use Rattle.sd_base.specs.declared.file.File.TheVariants.{Container}
 use Rattle.sd_base.specs.declared.record.NewChunk.{NewChunk}
+use Rattle.store_core.specs.Containers.{OnlyFinds}
+use Rattle.store_core.specs.declared.fault.StoreFault.{StoreFault}
 
 no_chunk : NewChunk
 no_chunk = record { length = 0; name = [] }
@@ -105,17 +108,26 @@ module _ (generation : ℕ) (spots : List Spot) (kept : List NewChunk) (stored :
   -- one chunk more that is read
   pub text-next : (told : Option (File → List ℕ)) (i : ℕ) (old new : List ℕ) → i < length kept → IsTextTo told i old →
       IfSome (content told (Container generation (spot_at spots i).container)) (λ bytes.
-      length (take (kept_at kept i).length (drop (spot_at spots i).offset bytes)) ≡ (kept_at kept i).length
-      → new ≡ old ++ take (kept_at kept i).length (drop (spot_at spots i).offset bytes)) →
+      new ≡ old ++ take (kept_at kept i).length (drop (spot_at spots i).offset bytes)) →
       IsTextTo told (i + 1) new
   text-next None i old new within before read = tt
   text-next (Some files) i old new within before read = λ are.
       let at = are.bytes i within in
       let count = count-of stored kept are.lengths in
-      read (ap length at ∙ size-of stored kept i are.lengths within)
+      read
       ∙ ap (λ (last : List ℕ). old ++ last) at
       ∙ ap (λ (front : List ℕ). front ++ slice_index_or stored i []) (before are)
       ∙ sym (concat-next stored i (omega (arith, within, count)))
+
+  -- no stored chunk reaches past the end of its container
+  pub text-whole : (told : Option (File → List ℕ)) (i : ℕ) → i < length kept →
+      IfSome (content told (Container generation (spot_at spots i).container)) (λ bytes.
+      length (take (kept_at kept i).length (drop (spot_at spots i).offset bytes)) < (kept_at kept i).length) →
+      IfSome told (λ files. AreStored files generation spots kept stored → ⊥)
+  text-whole None i within short = tt
+  text-whole (Some files) i within short = λ are.
+      let size = ap length (are.bytes i within) ∙ size-of stored kept i are.lengths within in
+      omega (arith, size, short)
 
   -- all chunks are read
   pub text-all : (told : Option (File → List ℕ)) (i : ℕ) (text : List ℕ) → length kept ≤ i → IsTextTo told i text →
@@ -191,3 +203,14 @@ module _ (name_of : List ℕ → List ℕ) (kept : List NewChunk) (text ends : L
   batch-named P generation spots stored None read holds = tt
   batch-named P generation spots stored (Some files) read holds = λ are.
       subst P (names-are stored are.lengths (read are)) holds
+
+-- a fault that is passed on is one of those that a call which only reads may return
+pub finds-passed : {S T : Type 0} (r : Result S StoreFault) (fault : StoreFault) (q : Result T StoreFault) → r ≡ Err fault →
+    IsErrAnd q (λ e. e ≡ fault) → OnErr r (OnlyFinds r) → OnErr q (OnlyFinds q)
+finds-passed {S} {T} r fault q was same only =
+    subst (λ (p : Result T StoreFault). OnErr p (OnlyFinds p)) (sym (passed-is fault q same))
+    (elim (subst (λ (p : Result S StoreFault). OnErr p (OnlyFinds p)) was only) [
+      | inl wrong ↦ inl (wrong.0, err-of T (err-is wrong.1))
+      | inr (inl failed) ↦ inr (inl (err-of T (err-is failed)))
+      | inr (inr memory) ↦ inr (inr (err-of T (err-is memory)))
+    ])

@@ -120,7 +120,7 @@ module _ (name_of : List ℕ → List ℕ) (opened : Opened) (chunks : List (Lis
               })))
           | inr both ↦
               let found = subst (λ (p : RawParams). IsFirstNotCut p opened.book chunks damage) is
-                  (subst (λ (b : BookState). IsFirstNotCut params b chunks damage) at both.1) in
+              (subst (λ (b : BookState). IsFirstNotCut params b chunks damage) at both.1) in
               inr (inr (inr (record {
                 named = names files have are;
                 different = different here are;

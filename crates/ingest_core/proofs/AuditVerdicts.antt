@@ -89,9 +89,9 @@ module _ (name_of : List ℕ → List ℕ) (names : GivesNames name_of) (files :
     | inl broken ↦ inl broken
     | inr (inl is) ↦ inr is
     | inr (inr wrong) ↦ elim (finds.damaged wrong.0 (ap (λ (f : StoreFault). let r : Result Audited StoreFault = Err f in r) wrong.1)) [
-        | inl opening ↦ absurd (no_store_is_undamaged files wrong.0 none opening)
-        | inr found ↦ absurd (opens-no_store found.0 found.1 none)
-      ]
+      | inl opening ↦ absurd (no_store_is_undamaged files wrong.0 none opening)
+      | inr found ↦ absurd (opens-no_store found.0 found.1 none)
+    ]
   ]
 
   -- a damage of opening is returned
@@ -102,9 +102,9 @@ module _ (name_of : List ℕ → List ℕ) (names : GivesNames name_of) (files :
     | inl broken ↦ inl broken
     | inr (inl none) ↦ absurd (no_store_is_undamaged files damage (finds.no_store (ap (λ (f : StoreFault). let r : Result Audited StoreFault = Err f in r) none)) is)
     | inr (inr wrong) ↦ elim (finds.damaged wrong.0 (ap (λ (f : StoreFault). let r : Result Audited StoreFault = Err f in r) wrong.1)) [
-        | inl opening ↦ inr (wrong.1 ∙ ap (λ (d : Damage). Damaged d) (have_one_damage files wrong.0 damage opening is))
-        | inr found ↦ absurd (open_undamaged files found.0 damage found.1 is)
-      ]
+      | inl opening ↦ inr (wrong.1 ∙ ap (λ (d : Damage). Damaged d) (have_one_damage files wrong.0 damage opening is))
+      | inr found ↦ absurd (open_undamaged files found.0 damage found.1 is)
+    ]
   ]
 
   -- the state of files without a flaw
@@ -175,11 +175,11 @@ pub finds-store : (name_of : List ℕ → List ℕ) (told : Option (File → Lis
     OnOk r (IfSome told (λ files. OpenAs files opened → IsFlawOf name_of files opened None)) →
     IfOk r (λ audited. counts_of audited ≡ counts_of_book opened.book) →
     ((damage : Damage) → r ≡ Err (Damaged damage) →
-      IfSome told (λ files. OpenAs files opened → IsFlawOf name_of files opened (Some damage))) →
+    IfSome told (λ files. OpenAs files opened → IsFlawOf name_of files opened (Some damage))) →
     OnErr r (OnlyFinds r) → IfSome told (λ files. Finds name_of files r)
 finds-store name_of None opened r opens flawless counted damaged only = tt
 finds-store name_of (Some files) opened (Ok audited) opens flawless counted damaged only = record {
-  done = (opened, opens, flawless opens, counted);
+  done = (opened, (opens, flawless opens, counted));
   damaged = λ damage is. absurd cc;
   no_store = λ is. absurd cc;
   only = tt;

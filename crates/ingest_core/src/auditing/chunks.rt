@@ -17,7 +17,7 @@ use crate::auditing::chunk_cuts::ChunkCuts;
 use crate::auditing::rules::ChunkRules;
 use chunk_names::{Namer, name_all};
 use container_pack::{Spot, read_chunk};
-use edge_traits::{EdgeFault, Shelf};
+use edge_traits::Shelf;
 use sd_base::{Damage, MAX_CHUNK_LEN, MAX_INPUT, NewChunk, OpenGate, OutOfMemory};
 use std::alloc::Global;
 use std::thread::Threads;
@@ -123,7 +123,17 @@ fn check_batch<H: Threads + Sync, N: Namer, F: Shelf>(
 {
     let ends = ends_of(alloc, kept)?;
     let text = read_text(alloc, shelf, generation, kept, spots)?;
-    let names = name_all(rt, alloc, rules.namer, &text, 0, &ends, rules.workers, 0, &OpenGate)?;
+    let names = name_all(
+        rt,
+        alloc,
+        rules.namer,
+        &text,
+        0,
+        &ends,
+        rules.workers,
+        0,
+        &OpenGate,
+    )?;
     if let Some(damage) = first_misnamed(kept, &names, number) {
         return Err(StoreFault::Damaged(damage));
     }
@@ -155,19 +165,25 @@ fn ends_of(alloc: Global, kept: &[NewChunk]) -> Result<Vec<u32>, OutOfMemory>
     Ok(ends)
 }
 
-// The bytes of chunks at their spots, in one text.
+// The bytes of chunks at their spots, in one text. A container that ends before a chunk does is
+// damaged.
 fn read_text<F: Shelf>(
     alloc: Global,
     shelf: &mut F,
     generation: u32,
     kept: &[NewChunk],
     spots: &[Spot],
-) -> Result<Vec<u8>, EdgeFault>
+) -> Result<Vec<u8>, StoreFault>
     requires spots { length spots.now ≡ length kept.now }
     ensures text { (stored : List (List ℕ)) → IfOk result (λ text. IfSome (F.files shelf.old) (λ files.
         AreStored files generation spots.now kept.now stored → text.items ≡ concat stored)) }
     ensures size { IfOk result (λ text. length text.items ≡ bytes_kept kept.now) }
-    ensures reads { OnlyReads (result ≡ Err EdgeFault.Failed) F.files F.loose F.faults F.faultless
+    ensures whole { (stored : List (List ℕ)) (damage : Damage) → result ≡ Err (StoreFault.Damaged damage)
+        → IfSome (F.files shelf.old) (λ files.
+        AreStored files generation spots.now kept.now stored → ⊥) }
+    ensures refused { OnErr result (OnlyFinds result) }
+
+    ensures reads { OnlyReads (result ≡ Err StoreFault.ShelfFault) F.files F.loose F.faults F.faultless
         shelf.old shelf.new }
 {
     let mut text = Vec::new(alloc);
@@ -184,7 +200,7 @@ fn read_text<F: Shelf>(
     Ok(text)
 }
 
-// Reads `size` bytes at a spot to the end of a text. If its file ends before, zeros follow.
+// Reads `size` bytes at a spot to the end of a text. The container is damaged if it ends before.
 fn read_onto<F: Shelf>(
     alloc: Global,
     shelf: &mut F,
@@ -192,18 +208,28 @@ fn read_onto<F: Shelf>(
     spot: Spot,
     size: u32,
     text: &mut Vec<u8>,
-) -> Result<(), EdgeFault>
+) -> Result<(), StoreFault>
     ensures bytes { OnOk result (IfSome (content (F.files shelf.old) (Container generation spot.container))
-        (λ bytes. length (take size (drop spot.offset bytes)) ≡ size
-        → text.new.items ≡ text.old.items ++ take size (drop spot.offset bytes))) }
+        (λ bytes. text.new.items ≡ text.old.items ++ take size (drop spot.offset bytes))) }
     ensures size { OnOk result (length text.new.items ≡ length text.old.items + size) }
-    ensures reads { OnlyReads (result ≡ Err EdgeFault.Failed) F.files F.loose F.faults F.faultless
+    ensures short { (damage : Damage) → result ≡ Err (StoreFault.Damaged damage)
+        → IfSome (content (F.files shelf.old) (Container generation spot.container)) (λ bytes.
+        length (take size (drop spot.offset bytes)) < size) }
+    ensures refused { OnErr result (OnlyFinds result) }
+
+    ensures reads { OnlyReads (result ≡ Err StoreFault.ShelfFault) F.files F.loose F.faults F.faultless
         shelf.old shelf.new }
 {
     let chunk = read_chunk(alloc, shelf, generation, spot, size)?;
+    let found = chunk.len() as u64;
+    if found < u64::from(size) {
+        return Err(StoreFault::Damaged(Damage::Container {
+            number: spot.container,
+            needed: u64::from(spot.offset) + u64::from(size),
+            found: u64::from(spot.offset) + found,
+        }));
+    }
     text.extend_from_slice(&chunk)?;
-    let missing = size as usize - chunk.len();
-    text.extend_from_slice(&vec![in alloc; 0; missing]?)?;
     Ok(())
 }
 

@@ -12,9 +12,9 @@ loop-session-preserved c =
     let within : k < length sessions = omega (arith, c.loop-session-test.true, c.sessions-session-end.ensures) in
     elim c.if-live.branch [
       | then-live w ↦
-          let more = live-more sessions k within (sym c.live.ensures ∙ w.if-live) in
+          let more = live-more sessions k within (sym c.live.ensures ∙ w.if-live.true) in
           record { counted = omega (arith, w.live-is, was, more); few = omega (arith, w.live-is, few) }
       | else-live w ↦
-          let same = live-same sessions k within (sym c.live.ensures ∙ w.if-live) in
+          let same = live-same sessions k within (sym c.live.ensures ∙ w.if-live.false) in
           record { counted = omega (arith, w.live-is, was, same); few = omega (arith, w.live-is, few) }
     ]

@@ -1,5 +1,8 @@
-use Rattle.std.proofs.Common.{arith, ◌≡◌, ◌∙◌, ℕ, List, ap, length, map, sym, subst, IfSome}
+use Rattle.std.proofs.Common.{rules, arith, ◌≡◌, ◌∙◌, ℕ, List, ap, length, map, sym, subst, IfSome}
+use Rattle.std.specs.Prelude.{Err}
 use Rattle.std.specs.List.{concat}
+use Rattle.store_core.proofs.StoreLemmas.{told_map}
+use Rattle.store_core.specs.declared.fault.StoreFault.TheVariants.{Damaged}
 use Rattle.ingest_core.proofs.AuditChunks.{batch-named, ends-count, ends-rise, names-count}
 use Rattle.ingest_core.proofs.BatchCuts.{cuts-read}
 use Rattle.ingest_core.proofs.Refusals.{count-between}
@@ -86,3 +89,12 @@ returns-clause-cut g c stored =
     (sym c.deref-4.ensures.value) (c.in_ok-text.ensures.text stored) in
     cuts-read (numbers_of c.args.rules.now.params) c.args.generation c.args.spots.now kept stored told text ends
     c.in_ok-cuts_of_batch.field-0.items cut read c.in_ok-cuts_of_batch.ensures.cuts
+
+pub returns-in_err-text-clause-damaged : goal.returns-in_err-text-clause-damaged
+returns-in_err-text-clause-damaged g c stored damage is =
+    let told = g.F.Shelf.files c.args.shelf.now in
+    let was : c.read_text.result ≡ Err (Damaged damage) = search rules in
+    told_map {P = λ files. AreStored files c.args.generation c.args.spots.now c.args.kept.now stored → ⊥}
+    {Q = λ files. AreStored files c.args.generation c.args.spots.now c.args.kept.now stored
+    → IsMisnamed c.args.kept.now (map g.N.Namer.name_of stored) c.args.number damage} told
+    (λ files none are. absurd (none are)) (c.read_text.ensures.whole stored damage was)
