@@ -1,7 +1,7 @@
 -- The chunks that the containers of a store have lie at their spots, so an audit reads them, and what
 -- it finds of their names is what the definition of a flaw asks.
-use Rattle.std.proofs.Common.{◌≡◌, ℕ, zero, suc, ◌<◌, List, [], ◌∷◌, take, drop, length, map, slice_index_or, refl, ap, sym, subst, ◌∙◌, arith, IfSome}
-use Rattle.std.specs.Prelude.{Err, None, Ok, OnOk, Option, Result, Some}
+use Rattle.std.proofs.Common.{◌≡◌, ℕ, zero, suc, ◌<◌, List, [], ◌∷◌, take, drop, length, map, slice_index_or, refl, ap, sym, subst, ◌∙◌, arith}
+use Rattle.std.specs.Prelude.{Some}
 use Rattle.std.proofs.lemmas.List.{get_or-map, length-map}
 use Rattle.container_pack.proofs.ShelfLemmas.{IsStored-read}
 use Rattle.container_pack.specs.Spots.{LieAt, LiesAt, filled_by, nothing_filled, spots_of, spots_on}

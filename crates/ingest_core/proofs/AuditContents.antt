@@ -1,6 +1,6 @@
 -- The looks at the chunks and the sessions of a store, put together: what each found, as the
 -- definition of a flaw asks.
-use Rattle.std.proofs.Common.{◌≡◌, ◌⊎◌, inl, inr, ℕ, ◌<◌, ◌≤◌, List, [], length, map, slice_index_or, ap, sym, subst, ◌∙◌, arith, IfSome}
+use Rattle.std.proofs.Common.{◌≡◌, ◌⊎◌, inl, inr, ℕ, ◌≤◌, List, length, map, slice_index_or, ap, sym, subst, arith, IfSome}
 use Rattle.std.specs.Prelude.{None, Option, Some}
 use Rattle.std.specs.List.{All}
 use Rattle.std.proofs.lemmas.List.{get_or-map, length-map}

@@ -1,8 +1,8 @@
 -- What an audit found in files, and what it returns by that.
-use Rattle.std.proofs.Common.{◌≡◌, ◌⊎◌, inl, inr, ℕ, List, refl, ap, sym, subst, ◌∙◌, IfSome}
+use Rattle.std.proofs.Common.{◌≡◌, inl, inr, ℕ, List, ap, sym, subst, ◌∙◌, IfSome}
 use Rattle.std.specs.Prelude.{Err, IfErr, IfOk, IsErrAnd, None, Ok, OnErr, OnOk, Option, Result, Some}
 use Rattle.ingest_core.proofs.FaultLemmas.{err-is, err-of, passed-is}
-use Rattle.ingest_core.specs.Auditing.{AuditsFiles, Breaks, HoldStateOf, IsDoneAs, IsFirstDamage, IsOfAudit, IsRefusedAs, ReturnsFlaw, counts_of}
+use Rattle.ingest_core.specs.Auditing.{AuditsFiles, HoldStateOf, IsDoneAs, IsFirstDamage, IsOfAudit, IsRefusedAs, ReturnsFlaw, counts_of}
 use Rattle.ingest_core.specs.declared.auditing.Audited.{Audited}
 use Rattle.sd_base.specs.Audits.{StoreCounts, counts_of_book, counts_of_state}
 use Rattle.sd_base.specs.FlawLaws.{opened_of}

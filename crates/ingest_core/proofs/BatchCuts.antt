@@ -9,7 +9,7 @@ use Rattle.container_pack.specs.declared.spot.Spot.{Spot}
 use Rattle.ingest_core.proofs.AuditBatches.{range-at, range-count, range-stored}
 use Rattle.ingest_core.proofs.AuditChunks.{count-of, text-cut}
 use Rattle.ingest_core.proofs.Refusals.{count-between}
-use Rattle.ingest_core.specs.AuditChunks.{AreStored, ends_from, lengths_kept}
+use Rattle.ingest_core.specs.AuditChunks.{AreStored, ends_from}
 use Rattle.ingest_core.specs.AuditCuts.{AreCutsOf, AreCutsOfAll, cuts_at}
 use Rattle.ingest_core.specs.declared.auditing.chunk_cuts.ChunkCuts.{ChunkCuts}
 use Rattle.sd_base.specs.Cutting.{chunks_between}

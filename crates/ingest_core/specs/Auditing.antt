@@ -1,6 +1,6 @@
 -- What an audit of a store returns, by the files alone: counts of the lawful state that they hold, or
 -- what is first wrong with them.
-use Rattle.std.specs.Prelude.{◌≡◌, ◌⊎◌, ⊤, List, ℕ, Option, Some, None, Result, Err, IfErr, IfOk, IsErrAnd}
+use Rattle.std.specs.Prelude.{◌≡◌, ◌⊎◌, List, ℕ, Option, Some, None, Result, Err, IfErr, IfOk, IsErrAnd}
 use Rattle.ingest_core.specs.declared.auditing.Audited.{Audited}
 use Rattle.sd_base.specs.Audits.{StoreCounts, counts_of_book, counts_of_state}
 use Rattle.sd_base.specs.Flaws.{IsFlawOf}

@@ -1,4 +1,4 @@
-use Rattle.std.proofs.Common.{◌≡◌, IfSome, subst}
+use Rattle.std.proofs.Common.{IfSome, subst}
 use Rattle.std.specs.Prelude.{None, OnOk, Some}
 use Rattle.ingest_core.proofs.AuditVerdicts.{finds-refused, finds-store, found-audits}
 use Rattle.sd_base.specs.Flaws.{IsFlawOf}

@@ -1,6 +1,6 @@
 use Rattle.std.proofs.Common.{rules, ◌≡◌, ◌∙◌, ℕ, List, IfSome, inl, ap, length, sym, subst}
 use Rattle.std.specs.Prelude.{Err, Some}
-use Rattle.ingest_core.proofs.AuditContents.{AreMarked, store-flaw, store-flawless}
+use Rattle.ingest_core.proofs.AuditContents.{store-flaw, store-flawless}
 use Rattle.ingest_core.specs.AuditChunks.{lengths_kept}
 use Rattle.sd_base.specs.Books.{chunks_in}
 use Rattle.sd_base.specs.Flaws.{AreFlawless, HaveChunks, IsFlawAmong, IsFlawOf, IsMarkFlaw}

@@ -1,4 +1,4 @@
-use Rattle.std.proofs.Common.{◌≡◌, ◌<◌, ◌∙◌, arith, length, sym}
+use Rattle.std.proofs.Common.{◌<◌, ◌∙◌, arith, length, sym}
 use Rattle.ingest_core.proofs.LiveSessions.{live-more, live-same}
 use Rattle.ingest_core.proofs.auditing.live_sessions.Goals.{then-live, else-live}
 use Rattle.ingest_core.proofs.auditing.live_sessions.Goals as goal

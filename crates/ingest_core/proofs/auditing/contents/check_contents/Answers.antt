@@ -1,29 +1,23 @@
-use Rattle.std.proofs.Common.{rules, ◌≡◌, ◌∙◌, ◌≤◌, ℕ, List, IfSome, ap, length, map, sym, subst, arith}
+use Rattle.std.proofs.Common.{rules, ◌≡◌, ◌∙◌, ◌≤◌, ℕ, List, IfSome, ap, length, map, sym, subst}
 use Rattle.std.specs.Prelude.{Err, Ok, OnOk, Result}
-use Rattle.std.proofs.lemmas.List.{length-map}
 use Rattle.container_pack.specs.Spots.{LieAt, spots_of}
 use Rattle.container_pack.specs.declared.spot.Spot.{Spot}
-use Rattle.edge_traits.specs.declared.fault.EdgeFault.{EdgeFault}
 use Rattle.ingest_core.proofs.AuditContainers.{spots-count}
-use Rattle.ingest_core.proofs.AuditContents.{IsOfSessions, AreCutBy, misnamed-flaw, no-flaw, session-flaw, twin-flaw}
+use Rattle.ingest_core.proofs.AuditContents.{AreCutBy, misnamed-flaw, no-flaw, session-flaw, twin-flaw}
 use Rattle.ingest_core.specs.AuditChunks.{AreKeptNames, AreStored, lengths_kept}
 use Rattle.ingest_core.specs.AuditCuts.{AreCutsOfAll}
 use Rattle.ingest_core.specs.AuditTwins.{IsFirstTwin}
 use Rattle.sd_base.proofs.Ranges.{IsValid-numbers_of}
 use Rattle.sd_base.specs.Books.{chunks_in}
 use Rattle.sd_base.specs.Flaws.{AreFlawless, AreInOrder, AreNew, HaveChunks}
-use Rattle.sd_base.specs.Opening.{chunk_lengths}
 use Rattle.sd_base.specs.Packing.{packing}
 use Rattle.sd_base.specs.Params.{numbers_of}
-use Rattle.sd_base.specs.declared.damage.Damage.{Damage}
 use Rattle.sd_base.specs.declared.limits.TheConstants.{MAX_CHUNKS}
 use Rattle.sd_base.specs.declared.record.NewChunk.{NewChunk}
 use Rattle.ingest_core.specs.declared.auditing.chunk_cuts.ChunkCuts.{ChunkCuts}
 use Rattle.std.specs.List.{All}
 use Rattle.store_core.proofs.StoreLemmas.{Told, same-told}
-use Rattle.store_core.specs.declared.fault.StoreFault.{StoreFault}
 use Rattle.store_core.specs.declared.fault.StoreFault.TheVariants.{Damaged}
-use Rattle.ingest_core.proofs.auditing.contents.check_contents.Given as given
 use Rattle.ingest_core.proofs.auditing.contents.check_contents.Goals as goal
 
 -- what follows from two facts of a success
