@@ -2,8 +2,8 @@
 /// Records, sessions, places, containers and chunks are counted from 0.
 ///
 /// A replay of a book returns `Record` or `Recipe`, and opening a store also `Head` or `Container`.
-/// Offering a chunk and restoring a session return `Chunk`. Nothing returns `Mark`, `Twin`, `Order`
-/// and `Cut` yet: they are for looking through what the containers hold.
+/// Offering a chunk and restoring a session return `Chunk`. An audit opens the store, and then looks
+/// for `Mark`, `Chunk`, `Twin`, `Order` and `Cut`.
 #[derive(Clone, Copy, Debug, PartialEq, Eq)]
 pub enum Damage {
     /// The settings exist but are not those of valid parameters, or there are more than 65,535
