@@ -11,8 +11,7 @@ use Rattle.std.proofs.lemmas.List.Sums.{sum_by-append}
 use Rattle.container_pack.specs.declared.spot.Spot.{Spot}
 use Rattle.edge_traits.specs.Shelf.{content}
 use Rattle.ingest_core.proofs.FaultLemmas.{err-is, err-of, passed-is}
-use Rattle.ingest_core.proofs.Refusals.{count-between}
-use Rattle.ingest_core.specs.AuditChunks.{AreStored, bytes_kept, ends_from, kept_at, lengths_kept, spot_at}
+use Rattle.ingest_core.specs.AuditChunks.{AreStored, bytes_kept, ends_from, kept_at, lengths_kept, names_in, spot_at}
 use Rattle.sd_base.specs.Cutting.{RiseWithin, chunks_between}
 use Rattle.sd_base.specs.declared.file.File.{File}
 use Rattle.sd_base.specs.declared.file.File.TheVariants.{Container}
@@ -179,26 +178,21 @@ pub ends-count : (offset : ℕ) (kept : List NewChunk) → length (ends_from off
 ends-count offset [] = refl
 ends-count offset (chunk ∷ kept) = let later = ends-count (offset + chunk.length) kept in omega (arith, later)
 
-module _ (name_of : List ℕ → List ℕ) (kept : List NewChunk) (text ends : List ℕ) (names : List (List ℕ))
-    (named : names ≡ map name_of (chunks_between text 0 ends)) (cut : ends ≡ ends_from 0 kept) where
-  -- there is a name for each chunk
-  pub names-count : length names ≡ length kept
-  names-count =
-      ap length named ∙ length-map (chunks_between text 0 ends) name_of ∙ count-between text 0 ends ∙ ap length cut
-      ∙ ends-count 0 kept
-
-  -- the names are those of the chunks
-  names-are : (stored : List (List ℕ)) → map length stored ≡ lengths_kept kept → text ≡ concat stored → names ≡ map name_of stored
+module _ (name_of : List ℕ → List ℕ) (kept : List NewChunk) (text ends : List ℕ) (cut : ends ≡ ends_from 0 kept) where
+  -- the names of the chunks of a text are those of the chunks that were read
+  names-are : (stored : List (List ℕ)) → map length stored ≡ lengths_kept kept → text ≡ concat stored →
+      names_in name_of text ends ≡ map name_of stored
   names-are stored same read =
-      named ∙ ap (λ (chunks : List (List ℕ)). map name_of chunks)
+      ap (λ (chunks : List (List ℕ)). map name_of chunks)
       (ap (λ (es : List ℕ). chunks_between text 0 es) cut
       ∙ ap (λ (t : List ℕ). chunks_between t 0 (ends_from 0 kept)) read
       ∙ text-cut kept stored [] same)
 
-  -- what holds of the names holds of those of the chunks
+  -- what holds of the names of the text holds of those of the chunks
   pub batch-named : (P : List (List ℕ) → Type 0) (generation : ℕ) (spots : List Spot) (stored : List (List ℕ))
       (told : Option (File → List ℕ)) →
-      IfSome told (λ files. AreStored files generation spots kept stored → text ≡ concat stored) → P names →
+      IfSome told (λ files. AreStored files generation spots kept stored → text ≡ concat stored) →
+      P (names_in name_of text ends) →
       IfSome told (λ files. AreStored files generation spots kept stored → P (map name_of stored))
   batch-named P generation spots stored None read holds = tt
   batch-named P generation spots stored (Some files) read holds = λ are.

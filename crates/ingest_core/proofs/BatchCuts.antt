@@ -22,7 +22,7 @@ no_cuts : ChunkCuts
 no_cuts = record { is_uncut = false; may_be_followed = false }
 
 -- a chunk of a text by its number
-chunk-between : (text : List ℕ) (s : ℕ) (ends : List ℕ) (i : ℕ) → i < length ends →
+pub chunk-between : (text : List ℕ) (s : ℕ) (ends : List ℕ) (i : ℕ) → i < length ends →
     slice_index_or (chunks_between text s ends) i [] ≡ chunk_at text s ends i
 chunk-between text s [] i within = absurd (omega (arith, within))
 chunk-between text s (cut ∷ ends) zero within = refl

@@ -32,6 +32,7 @@ mod AuditChunks
 mod AuditBatches
 -- what is kept of the cuts of chunks, a batch after the other
 mod BatchCuts
+mod BatchNames
 -- the chunks that the containers of a store have are read
 mod AuditContainers
 -- stored chunks with equal bytes

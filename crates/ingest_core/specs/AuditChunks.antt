@@ -3,6 +3,7 @@
 use Rattle.std.specs.Prelude.{◌≡◌, ℕ, ◌+◌, ◌<◌, List, [], ◌∷◌, length, map, take, drop, slice_index_or}
 use Rattle.std.specs.List.{sum_by}
 use Rattle.container_pack.specs.declared.spot.Spot.{Spot}
+use Rattle.sd_base.specs.Cutting.{chunks_between}
 use Rattle.sd_base.specs.Firsts.{HoldsBelow, IsFirstFailing}
 use Rattle.sd_base.specs.declared.damage.Damage.{Damage}
 use Rattle.sd_base.specs.declared.damage.Damage.TheVariants.{Chunk}
@@ -21,6 +22,10 @@ bytes_kept kept = sum_by (λ chunk. chunk.length) kept
 abbrev pub ends_from : ℕ → List NewChunk → List ℕ
 ends_from offset [] = []
 ends_from offset (chunk ∷ chunks) = (offset + chunk.length) ∷ ends_from (offset + chunk.length) chunks
+
+-- the names of the chunks of a text that end at these positions
+abbrev pub names_in : (List ℕ → List ℕ) → List ℕ → List ℕ → List (List ℕ)
+names_in name_of text ends = map name_of (chunks_between text 0 ends)
 
 -- chunk i of these, and its spot
 abbrev pub kept_at : List NewChunk → ℕ → NewChunk

@@ -12,6 +12,7 @@ ghost use Rattle.store_core.specs.Containers.{OnlyFinds};
 ghost use Rattle.store_core.specs.Shelves.{OnlyReads};
 
 mod batch_cuts;
+mod batch_names;
 mod chunk_cuts;
 mod chunks;
 mod contents;
@@ -46,10 +47,10 @@ pub struct Audited {
 }
 
 /// Looks whether the files on a shelf hold a lawful state, and writes nothing. If they do, the
-/// result has the counts of that state. Otherwise there is no store, or the first damage is
-/// returned: that of opening, or else of the marks of containers, the names of chunks, equal chunks,
-/// the order of chunks, and the cuts of sessions. Dropped sessions are looked at too. Chunks are
-/// named by their bytes.
+/// result has the counts of that state. If not, there is no store, or the first damage is returned:
+/// that of opening, or else of the marks of containers, the names of chunks, equal chunks, the order
+/// of chunks, and the cuts of sessions. Dropped sessions are looked at too. `namer` names the chunks.
+/// All this holds unless the shelf fails or memory runs out.
 ///
 /// `ShelfFault` is returned only if the shelf's count of faults rose. No `ensures` clause speaks of
 /// the threads of `rt`.

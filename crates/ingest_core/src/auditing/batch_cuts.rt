@@ -8,11 +8,12 @@ ghost use Rattle.sd_base.specs.Params.{numbers_of};
 use crate::auditing::chunk_cuts::{ChunkCuts, cuts_of_chunk};
 use crate::auditing::rules::ChunkRules;
 use chunk_names::{Namer, chunk};
+use rayon::prelude::*;
 use sd_base::OutOfMemory;
 use std::alloc::Global;
-use std::thread::{Threads, for_each_mut};
+use std::thread::Threads;
 
-/// What is kept of the cuts of the chunks of a text, found by workers. The first chunk begins where
+/// What is kept of the cuts of the chunks of a text, found side by side. The first chunk begins where
 /// the text does. Fails only if memory runs out.
 pub(crate) fn cuts_of_batch<H: Threads + Sync, N: Namer>(
     rt: &H,
@@ -49,11 +50,10 @@ fn cut_each<H: Threads + Sync, N: Namer>(
         → AreCutsOf (numbers_of rules.now.params) (chunk_at text.now 0 ends.now n) (cuts_at cuts.new n) }
 {
     let (tables, params) = (&rules.tables, &rules.params);
-    for_each_mut(
+    par_for_each_mut(
         rt,
         cuts,
-        rules.workers as usize,
-        &|number: usize, found: &mut ChunkCuts|
+        |number: usize, found: &mut ChunkCuts|
             requires { RiseWithin 0 (length text.now) ends.now × (number < length ends.now)
                 × (tables.now.polynomial ≡ params.now.polynomial) }
             ensures { AreCutsOf (numbers_of params.entry.now)

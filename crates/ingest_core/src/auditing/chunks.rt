@@ -13,12 +13,13 @@ ghost use Rattle.store_core.specs.Containers.{OnlyFinds};
 ghost use Rattle.store_core.specs.Shelves.{OnlyReads};
 
 use crate::auditing::batch_cuts::cuts_of_batch;
+use crate::auditing::batch_names::first_misnamed;
 use crate::auditing::chunk_cuts::ChunkCuts;
 use crate::auditing::rules::ChunkRules;
-use chunk_names::{Namer, name_all};
+use chunk_names::Namer;
 use container_pack::{Spot, read_chunk};
 use edge_traits::Shelf;
-use sd_base::{Damage, MAX_CHUNK_LEN, MAX_INPUT, NewChunk, OpenGate, OutOfMemory};
+use sd_base::{Damage, MAX_CHUNK_LEN, MAX_INPUT, NewChunk, OutOfMemory};
 use std::alloc::Global;
 use std::thread::Threads;
 use store_core::StoreFault;
@@ -28,7 +29,7 @@ const MAX_BATCH: u32 = 8 * MAX_CHUNK_LEN;
 
 const _: () = prove!(MAX_BATCH <= MAX_INPUT);
 
-/// Reads the chunks of a generation at their spots, names them by workers and looks at their cuts,
+/// Reads the chunks of a generation at their spots, names them side by side and looks at their cuts,
 /// a batch of whole chunks at a time. The first chunk whose name is not the one that is kept is
 /// damaged. The result is what is kept of the cuts of each chunk.
 pub(crate) fn check_chunks<H: Threads + Sync, N: Namer, F: Shelf>(
@@ -89,7 +90,7 @@ fn batch_end(kept: &[NewChunk], first: usize) -> usize
     kept.len()
 }
 
-// Reads the chunks of a batch, which lie at these spots, names them by workers and looks at their
+// Reads the chunks of a batch, which lie at these spots, names them side by side and looks at their
 // cuts. The first whose name is not the one that is kept is damaged. The chunks have their numbers
 // from `number` on.
 fn check_batch<H: Threads + Sync, N: Namer, F: Shelf>(
@@ -123,18 +124,7 @@ fn check_batch<H: Threads + Sync, N: Namer, F: Shelf>(
 {
     let ends = ends_of(alloc, kept)?;
     let text = read_text(alloc, shelf, generation, kept, spots)?;
-    let names = name_all(
-        rt,
-        alloc,
-        rules.namer,
-        &text,
-        0,
-        &ends,
-        rules.workers,
-        0,
-        &OpenGate,
-    )?;
-    if let Some(damage) = first_misnamed(kept, &names, number) {
+    if let Some(damage) = first_misnamed(rt, rules.namer, &text, &ends, kept, number) {
         return Err(StoreFault::Damaged(damage));
     }
     Ok(cuts_of_batch(rt, alloc, rules, &text, &ends)?)
@@ -231,24 +221,4 @@ fn read_onto<F: Shelf>(
     }
     text.extend_from_slice(&chunk)?;
     Ok(())
-}
-
-// The first of these names that is not the one that is kept.
-fn first_misnamed(kept: &[NewChunk], names: &[[u8; 32]], number: u32) -> Option<Damage>
-    requires named { length names.now ≡ length kept.now }
-    requires numbers { number + length kept.now ≤ MAX_CHUNKS }
-    ensures first { MatchOption result (AreKeptNames kept.now names.now)
-        (λ damage. IsMisnamed kept.now names.now number damage) }
-{
-    for (place, chunk) in kept.iter().enumerate() {
-        let found = names[place];
-        if found != chunk.name {
-            return Some(Damage::Chunk {
-                number: number + place as u32,
-                kept: chunk.name,
-                found,
-            });
-        }
-    }
-    None
 }

@@ -30,7 +30,7 @@ use store_core::{Store, StoreFault};
 
 /// Looks whether the chunks of a store have their names, whether two are equal, and whether sessions
 /// have their chunks in order and are cut by the parameters, in this order. The first flaw is
-/// returned. The containers must have the chunks, of these lengths.
+/// returned. The clauses on flaws presume that the containers have chunks of these lengths.
 pub(crate) fn check_contents<H: Threads + Sync, N: Namer, F: Shelf>(
     rt: &H,
     alloc: Global,

@@ -79,7 +79,7 @@ fn first_bytes<F: Shelf>(
     Ok(found)
 }
 
-// The first bytes of a container: its mark and its number, the most significant byte first.
+// The header of a container: `SSCP` and its number, the most significant byte first.
 fn header(number: u32) -> [u8; CONTAINER_HEADER as usize]
     ensures { result ≡ header_of number }
 {

@@ -17,9 +17,9 @@ use std::alloc::Global;
 use std::collections::HashSet;
 use store_core::StoreFault;
 
-/// Looks for the first chunk that has the bytes of an earlier one, if the kept names are those of
-/// the bytes. Two such chunks have the same name, so only the bytes of chunks with the same name are
-/// compared. If no two names are equal, nothing is read.
+/// Looks for the first chunk that has the bytes of an earlier one. It presumes that the kept names
+/// are those of the bytes. Two such chunks have the same name, so only the bytes of chunks with the
+/// same name are compared. If no two names are equal, nothing is read.
 pub(crate) fn check_twins<F: Shelf>(
     alloc: Global,
     shelf: &mut F,
