@@ -1,5 +1,5 @@
 #!/usr/bin/env python3
-"""Measures `ingest`, `restore`, `list` and `refs` beside other programs, as Markdown.
+"""Measures `ingest`, `bulk`, `restore`, `list` and `refs` beside other programs, as Markdown.
 
 The programs run in turn, in one temporary folder. A ratio is of the best times of both sides. The
 last column has the most that a ratio or a peak of memory may be. MB is 10^6 bytes.
@@ -24,6 +24,7 @@ ROOT = Path(__file__).resolve().parent.parent
 MAX_CONTAINER = 2**22
 PLACES_OF_A_SESSION = 50_000
 LENGTH_OF_A_CHUNK = 8
+SEED = "7"
 
 
 # Inputs.
@@ -156,6 +157,31 @@ def print_zeros(given, room):
     print_times("zeros", bench, [("first `ingest`", "first", "`plan`", ["plan"], 1.1)])
 
 
+# An input that the program makes, and the same bytes in a file.
+
+
+def take_in_anew(bench, name, *words, **streams):
+    """Measures taking a session into a new store, and returns the line and the book of it."""
+    line = bench.room / "line"
+    make_store(bench.room)
+    bench.backup(name, *words, output=line, **streams)
+    return line.read_bytes(), (bench.room / "s" / "book.0").read_bytes()
+
+
+def print_bulk(given, room):
+    """The same session in both ways: `ingest` of what `restore` gives back of `bulk`."""
+    bench, path, numbers = Bench(room), Path(room, "input"), [SEED, f"{given.blocks}"]
+    session = ".".join(["bulk", *numbers])
+    take_in_anew(bench, "first", "bulk", *numbers)
+    bench.backup("restore", "restore", session, output=path)
+    for _ in range(given.rounds):
+        wanted = take_in_anew(bench, "ingest", "ingest", session, source=path)
+        if wanted != take_in_anew(bench, "bulk", "bulk", *numbers):
+            sys.exit("`bulk` and `ingest` of its bytes made different lines or books")
+    works = [("`bulk`", "bulk", "`ingest` of a file of the same bytes", ["ingest"], 1.15)]
+    print_times(f"{given.blocks:,} blocks", bench, works)
+
+
 # Stores of many chunks, written without the program.
 
 
@@ -235,6 +261,7 @@ def print_book(chunks, given, room):
 def main():
     parser = argparse.ArgumentParser(description=__doc__.splitlines()[0])
     parser.add_argument("--size", type=int, default=256_000_000, help="bytes of each input")
+    parser.add_argument("--blocks", type=int, default=4096, help="blocks that bulk takes in")
     parser.add_argument("--chunks", type=int, default=1_000_000, help="chunks of the larger store")
     parser.add_argument("--rounds", type=int, default=3, help="runs of each program")
     parser.add_argument("--folder", help="where to make the stores, if not for temporary files")
@@ -247,6 +274,7 @@ def main():
         print_input("random bytes", write_random, given, room)
         print_input("versions of a tree", write_versions, given, room)
         print_zeros(given, room)
+        print_bulk(given, room)
     with tempfile.TemporaryDirectory(dir=given.folder) as room:
         for chunks in (given.chunks // 10, given.chunks):
             print_book(chunks, given, room)

@@ -2,9 +2,9 @@
 -- are this project's own.
 --
 -- `IsRun` holds of every run. What depends on the command are `NeedsHeld`, `MayReturn`,
--- `LeavesSource`, `LeavesSink`, `LeavesShelf` and `GoesByVerdict`, with a case for each command. The
--- records take the ghost functions of the devices, and the devices themselves before and after the
--- run.
+-- `LeavesSource`, `LeavesSink`, `LeavesShelf` and `GoesByVerdict`, and `GoesByRecords` and
+-- `TakesByRecords` of `ByRecords.antt`, with a case for each command. The records take the ghost
+-- functions of the devices, and the devices themselves before and after the run.
 use Rattle.std.specs.Prelude.{◌≡◌, ◌≢◌, ◌⊎◌, ◌≤◌, ◌<◌, ◌+◌, ⊤, ℕ, Bool, false, List, [], ◌∷◌, drop, length, Option, Some, None, MatchOption, Result, Ok, Err, option_map, IfSome}
 use Rattle.sha2.specs.Sha256.{sha256}
 use Rattle.edge_traits.specs.Shelf.{SameFiles, SameLoose, content}
@@ -151,7 +151,8 @@ pub record WritesIfLawful {K : Type 0} (outcome : Outcome) (files : Option (File
   pub only_lawful : (after ≡ before) ⊎ IfSome files HoldLawfulState
 
 -- What a run leaves of the sink after a failed call on the store's files and a damage: it is as it
--- was. Only a restore may have written, if opening finds no damage.
+-- was. Only a restore may have written, if opening finds no damage. Of an audit `WritesIfLawful` says
+-- more.
 abbrev pub LeavesSink : {K : Type 0} → Result Command Refusal → Outcome → Option (File → List ℕ) → K → K → Type 0
 LeavesSink (Err bad) outcome files before after = after ≡ before
 LeavesSink (Ok (quiet (Plan raw workers segment))) outcome files before after = IsBrokenOff outcome → after ≡ before

@@ -338,7 +338,7 @@ command_of-ingest_with_no_workers = refl
 pub command_of-ingest_with_257_shards : command_of (codes "ingest" ∷ codes "a" ∷ codes "shards=257" ∷ []) ≡ bad_word Value 2
 command_of-ingest_with_257_shards = refl
 
--- one key of `ingest` is not there yet
+-- `batch` is not a key of `ingest`, and neither is a key of parameters
 pub command_of-ingest_with_batch : command_of (codes "ingest" ∷ codes "a" ∷ codes "batch=65536" ∷ []) ≡ bad_word NoKey 2
 command_of-ingest_with_batch = refl
 

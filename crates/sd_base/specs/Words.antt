@@ -28,7 +28,7 @@ default_segment = 65536
 abbrev pub default_shards : ℕ
 default_shards = 16
 
--- How `ingest` and `bulk` are carried out if no key is given. No word sets the bytes of a batch yet.
+-- How `ingest` and `bulk` are carried out if no key is given. No word sets the bytes of a batch.
 abbrev pub default_how : How
 default_how = record { workers = default_workers; segment = default_segment; batch = 1048576; shards = default_shards }
 

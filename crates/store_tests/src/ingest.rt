@@ -58,7 +58,7 @@ fn take_failing<H: Threads + Sync, N: Namer>(
 }
 
 /// How an input is taken in.
-fn take_in<H: Threads + Sync, N: Namer>(
+pub(crate) fn take_in<H: Threads + Sync, N: Namer>(
     rt: &H,
     alloc: Global,
     shelf: &mut MemShelf,
@@ -305,7 +305,7 @@ fn comes_back<N: Namer>(
 }
 
 /// Four chunks of 64 bytes: zeros, zeros after a one, and both again.
-fn two_chunks_twice() -> [u8; 256] {
+pub(crate) fn two_chunks_twice() -> [u8; 256] {
     let mut input = [0; 256];
     input[64] = 1;
     input[192] = 1;
