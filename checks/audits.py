@@ -12,7 +12,7 @@ from crafted_stores import KINDS, NUMBERS
 from damage import SMALL_STORES, change_each_byte, cut_at_each_length
 from folders import FOLDER, LONG, Twin, new_twin, refused, wanted_run, with_tails
 from harness import Mismatch, Run, each_row, expect, expect_same, run, test
-from made_stores import FLAWED, SOUND, Taken, changed, misnamed
+from made_stores import FLAWED, SOUND, Taken, changed, counts, misnamed
 from reference import DEFAULTS, SPARSE, SPARSE_ZERO, marked_zeros
 from reference_audit import audit, counts_of
 from reference_store import (
@@ -23,6 +23,7 @@ from reference_store import (
     files_in,
     ingest,
     opened,
+    spelling_of,
     twice,
     write_files,
 )
@@ -69,12 +70,13 @@ def audit_of_a_generated_session_counts_its_chunks():
     twin.expect(["audit"], Run(0, counts_of(opened(twin.files)), b""))
 
 
+def expect_sound(files, line):
+    Twin(files).expect(["audit"], Run(0, line.encode(), b""))
+
+
 @test
 def stores_without_a_flaw_are_counted():
-    def expect_row(_, files, line):
-        Twin(files).expect(["audit"], Run(0, line.encode(), b""))
-
-    each_row(((name, *it) for name, it in SOUND.items()), expect_row)
+    each_row(((name, *it) for name, it in SOUND.items()), lambda _, *it: expect_sound(*it))
 
 
 def expect_flaw(_, files, note):
@@ -176,14 +178,17 @@ def each_length_that_a_file_is_cut_to_is_named():
 
 @test
 def what_is_not_committed_is_not_looked_at():
-    line = b"ok 2 live 2 ingested 2 chunks 1 containers\n"
-    rows = [(with_tails(twice(), it),) for it in TAILS]
+    rows = [with_tails(twice(), it) for it in TAILS]
     rows += [
-        (twice() | {"container.0.1": b"XXXXXXXXX"},),
-        (twice() | {"container.1.0": b"XXXXXXXXX", "book.1": b"x", "seal.1": b"SSS"},),
-        (twice() | {"seal.0": b"\x00\xff", "head": twice()["head"][:SETTINGS] + b"\x00"},),
+        twice() | {"container.0.1": b"XXXXXXXXX"},
+        twice() | {"container.1.0": b"XXXXXXXXX", "book.1": b"x", "seal.1": b"SSS"},
+        twice() | {"seal.0": b"\x00\xff", "head": twice()["head"][:SETTINGS] + b"\x00"},
     ]
-    each_row(rows, lambda files: Twin(files).expect(["audit"], Run(0, line, b"")))
+    rows = [(it, counts(2, 2, 2, 1)) for it in rows]
+    for name in ("no session", "an empty session"):
+        files, line = SOUND[name]
+        rows.append((files | {CONTAINER: b"XXXXXXXXX"}, line))
+    each_row(rows, expect_sound)
 
 
 @test
@@ -261,6 +266,17 @@ def container_that_is_full_is_audited_to_its_last_byte():
     damaged.expect(["audit"], refused(misnamed(3, sha256(kept).digest(), found)))
 
 
+def small_chunk(text, number):
+    return text[48 * number : 48 * number + 48]
+
+
+def with_small_chunk(files, number, chunk):
+    """The files with another chunk. 87,381 chunks of 48 bytes fit into a container."""
+    container, at = divmod(number, 87_381)
+    name, offset = f"container.0.{container}", 8 + 48 * at
+    return files | {name: files[name][:offset] + chunk + files[name][offset + 48 :]}
+
+
 @test
 def many_small_chunks_are_audited():
     """More chunks than 16 bits count, of the least length, and more bytes than a batch has."""
@@ -271,14 +287,18 @@ def many_small_chunks_are_audited():
     twin.files = files_in(FOLDER)
     line = f"ok 1 live 1 ingested {count} chunks 3 containers\n".encode()
     twin.expect(["audit"], Run(0, line, b""))
-    # 87,381 chunks of 48 bytes fit into a container.
-    for number in (87_381, 65_536, 199_999):
-        container, at = divmod(number, 87_381)
-        name, offset = f"container.0.{container}", 8 + 48 * at
-        kept = text[48 * number : 48 * number + 48]
-        found = bytes([kept[0] ^ 1]) + kept[1:]
-        damaged = Twin(changed(twin.files, name, offset, found[0]))
-        damaged.expect(["audit"], refused(misnamed(number, sha256(kept).digest(), found)))
+    # The first of each row is the one to be named.
+    for numbers in ([20_000, 40_000, 65_536, 87_380], [87_381, 150_000, 199_999], [199_999]):
+        damaged = twin.files
+        for number in numbers:
+            damaged = with_small_chunk(damaged, number, bytes(48))
+        kept = sha256(small_chunk(text, numbers[0])).digest()
+        Twin(damaged).expect(["audit"], refused(misnamed(numbers[0], kept, bytes(48))))
+    record = opened(twin.files).book.sessions[0]
+    same = with_small_chunk(twin.files, count - 1, small_chunk(text, 3))
+    fresh = [*record.fresh[:-1], record.fresh[3]]
+    same["book.0"] = spelling_of(record._replace(fresh=fresh))
+    Twin(same).expect(["audit"], refused(f"damaged twin 3 {count - 1}"))
 
 
 @test

@@ -18,7 +18,7 @@ SUBJECTS = {
     "drops": 12,
     "bulk": 9,
     "containers": 10,
-    "damage": 12,
+    "damage": 13,
     "audits": 20,
     "limits": 12,
     "faults": 19,
