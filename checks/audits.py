@@ -13,13 +13,24 @@ from damage import SMALL_STORES, change_each_byte, cut_at_each_length
 from folders import FOLDER, LONG, Twin, new_twin, refused, wanted_run, with_tails
 from harness import Mismatch, Run, each_row, expect, expect_same, run, test
 from made_stores import FLAWED, SOUND, Taken, changed, counts, misnamed
-from reference import DEFAULTS, SPARSE, SPARSE_ZERO, marked_zeros
+from reference import (
+    DEFAULTS,
+    SPARSE,
+    SPARSE_ZERO,
+    WINDOW,
+    Params,
+    fingerprint,
+    marked_zeros,
+)
 from reference_audit import audit, counts_of
 from reference_store import (
     MAX_CHUNK,
     MAX_CONTAINER,
     SETTINGS,
     Drop,
+    Ingest,
+    append_record,
+    chunks_of,
     files_in,
     ingest,
     opened,
@@ -281,11 +292,11 @@ def with_small_chunk(files, number, chunk):
 def many_small_chunks_are_audited():
     """More chunks than 16 bits count, of the least length, and more bytes than a batch has."""
     count, draw = 200_000, Random(72)
-    text = draw.randbytes(48 * count)
+    text = draw.randbytes(48 * count + 5)
     twin = new_twin(replace(DEFAULTS, min=48, max=48))
     expect_same("the status", 0, run([FOLDER, "ingest", "a"], text, changes=FOLDER).status)
     twin.files = files_in(FOLDER)
-    line = f"ok 1 live 1 ingested {count} chunks 3 containers\n".encode()
+    line = f"ok 1 live 1 ingested {count + 1} chunks 3 containers\n".encode()
     twin.expect(["audit"], Run(0, line, b""))
     # The first of each row is the one to be named.
     for numbers in ([20_000, 40_000, 65_536, 87_380], [87_381, 150_000, 199_999], [199_999]):
@@ -296,9 +307,13 @@ def many_small_chunks_are_audited():
         Twin(damaged).expect(["audit"], refused(misnamed(numbers[0], kept, bytes(48))))
     record = opened(twin.files).book.sessions[0]
     same = with_small_chunk(twin.files, count - 1, small_chunk(text, 3))
-    fresh = [*record.fresh[:-1], record.fresh[3]]
+    fresh = [*record.fresh[:-2], record.fresh[3], record.fresh[-1]]
     same["book.0"] = spelling_of(record._replace(fresh=fresh))
     Twin(same).expect(["audit"], refused(f"damaged twin 3 {count - 1}"))
+    # The last chunk is too short to come before another one.
+    late = dict(twin.files)
+    append_record(late, 0, len(late["book.0"]), Ingest(b"b", 53, [], [count, 0]))
+    Twin(late).expect(["audit"], refused("damaged cut 1 0"))
 
 
 @test
@@ -313,6 +328,32 @@ def cut_of_a_late_session_among_many_is_named():
 
 
 # Drawn stores.
+
+
+def drawn_params(draw, degree, bits):
+    """Parameters of this degree and so many bits that cut a drawn text, and the text."""
+    polynomial, text = 1 << degree | draw.getrandbits(degree) | 1, draw.randbytes(1200)
+    cut = draw.randrange(300, 900)
+    target = fingerprint(polynomial, text[cut - WINDOW : cut]) % 2**bits
+    least = WINDOW if bits < 5 else draw.randrange(WINDOW, 300)
+    return Params(polynomial, bits, target, least, 1200), text
+
+
+@test
+def chunks_are_cut_by_the_parameters_of_the_store():
+    """Chunks that a candidate ends, and then the first two of them in one."""
+    draw = Random(74)
+
+    def expect_row(degree):
+        params, text = drawn_params(draw, degree, degree % 16 + 1)
+        parts = chunks_of(params, text)
+        numbers = [*range(len(parts))]
+        expect_sound(made_stores.one(parts, numbers, params), counts(1, 1, len(parts), 1))
+        joined = [parts[0] + parts[1], *parts[2:]]
+        expect_flaw(None, made_stores.one(joined, numbers[:-1], params), "damaged cut 0 0")
+
+    each_row([(degree,) for degree in range(16, 64)], expect_row)
+
 
 PARTS = [
     bytes(64),

@@ -160,6 +160,10 @@ FLAWED = {
     ),
     "a chunk with a candidate in it": (one([LONGER], [0]), "damaged cut 0 0"),
     "a last chunk with a candidate in it": (one([A, LONGER], [0, 1]), "damaged cut 0 1"),
+    "a candidate one byte before the end of a chunk": (
+        one([marked(99, 101)], [0], SPARSE),
+        "damaged cut 0 0",
+    ),
     "a chunk shorter than the minimum before another": (
         one([A[1:], X], [0, 1]),
         "damaged cut 0 0",
