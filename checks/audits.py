@@ -277,6 +277,21 @@ def container_that_is_full_is_audited_to_its_last_byte():
     damaged.expect(["audit"], refused(misnamed(3, sha256(kept).digest(), found)))
 
 
+@test
+def no_chunk_of_many_is_left_out():
+    """Chunks of one to five bytes, of which those near powers of two are changed, each alone."""
+    fresh = [it.to_bytes(1 + it // 256, "big") for it in range(1030)]
+    files = made_stores.one(fresh, [*range(len(fresh))])
+
+    def expect_row(number):
+        chunk, offset = fresh[number], 8 + sum(map(len, fresh[:number]))
+        found = bytes([chunk[0] ^ 0xFF]) + chunk[1:]
+        note = misnamed(number, sha256(chunk).digest(), found)
+        expect_flaw(number, changed(files, CONTAINER, offset, found[0]), note)
+
+    each_row([(2**power + it,) for power in range(1, 11) for it in (-1, 0, 1)], expect_row)
+
+
 def small_chunk(text, number):
     return text[48 * number : 48 * number + 48]
 
@@ -298,8 +313,17 @@ def many_small_chunks_are_audited():
     twin.files = files_in(FOLDER)
     line = f"ok 1 live 1 ingested {count + 1} chunks 3 containers\n".encode()
     twin.expect(["audit"], Run(0, line, b""))
-    # The first of each row is the one to be named.
-    for numbers in ([20_000, 40_000, 65_536, 87_380], [87_381, 150_000, 199_999], [199_999]):
+    # The first of each row is the one to be named. 174,762 chunks have at most 8 MiB.
+    rows = [
+        [4_095, 20_000, 40_000, 65_536, 87_380],
+        [65_536, 87_380],
+        [87_380, 87_381],
+        [87_381, 150_000],
+        [174_761, 174_762],
+        [174_762, 199_999],
+        [199_999],
+    ]
+    for numbers in rows:
         damaged = twin.files
         for number in numbers:
             damaged = with_small_chunk(damaged, number, bytes(48))
@@ -323,8 +347,8 @@ def cut_of_a_late_session_among_many_is_named():
     sessions = [Taken(fresh, [0, 1]), *[Taken([], [0, 0, 1])] * 300]
     line = b"ok 301 live 301 ingested 2 chunks 1 containers\n"
     Twin(made_stores.store_of(sessions)).expect(["audit"], Run(0, line, b""))
-    sessions[200] = Taken([], [0, 1, 0])
-    Twin(made_stores.store_of(sessions)).expect(["audit"], refused("damaged cut 200 1"))
+    sessions[280] = Taken([], [0, 1, 0])
+    Twin(made_stores.store_of(sessions)).expect(["audit"], refused("damaged cut 280 1"))
 
 
 # Drawn stores.

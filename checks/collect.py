@@ -19,7 +19,7 @@ SUBJECTS = {
     "bulk": 9,
     "containers": 10,
     "damage": 13,
-    "audits": 21,
+    "audits": 22,
     "limits": 12,
     "faults": 19,
     "store_streams": 6,

@@ -164,6 +164,10 @@ FLAWED = {
         one([marked(99, 101)], [0], SPARSE),
         "damaged cut 0 0",
     ),
+    "a candidate late in a chunk of the maximum": (
+        one([marked(1_030_000, MAX_CHUNK)], [0], replace(LONGEST, target=1, min=1_000_000)),
+        "damaged cut 0 0",
+    ),
     "a chunk shorter than the minimum before another": (
         one([A[1:], X], [0, 1]),
         "damaged cut 0 0",
