@@ -341,14 +341,16 @@ def many_small_chunks_are_audited():
 
 
 @test
-def cut_of_a_late_session_among_many_is_named():
-    """All sessions but one have the same chunks, and it has them in another order."""
+def flaws_of_late_sessions_among_many_are_named():
+    """Most sessions have the same chunks, and one has them in another order."""
     fresh = [bytes(64), bytes(8)]
     sessions = [Taken(fresh, [0, 1]), *[Taken([], [0, 0, 1])] * 300]
     line = b"ok 301 live 301 ingested 2 chunks 1 containers\n"
     Twin(made_stores.store_of(sessions)).expect(["audit"], Run(0, line, b""))
     sessions[280] = Taken([], [0, 1, 0])
     Twin(made_stores.store_of(sessions)).expect(["audit"], refused("damaged cut 280 1"))
+    sessions[290] = Taken([b"x", b"y"], [3, 2])
+    Twin(made_stores.store_of(sessions)).expect(["audit"], refused("damaged order 290 0"))
 
 
 # Drawn stores.

@@ -118,6 +118,10 @@ NUMBERS = {
     "three equal chunks": (one([P, Q, P, P], [0, 1, 2, 3]), "damaged twin 0 2"),
     "the order at two places": (one([P, Q, R], [1, 2, 0]), "damaged order 0 0"),
     "the order at a place and at the end": (one([P, Q, R], [0, 2]), "damaged order 0 1"),
+    "the order late in a session": (
+        one([A, X, Y], [0] * 70_000 + [2, 1]),
+        "damaged order 0 70000",
+    ),
     "the order of two sessions": (
         store_of([Taken([P], [0]), Taken([Q, R], [1]), Taken([X, Y], [4, 3])]),
         "damaged order 1 1",
@@ -140,6 +144,7 @@ NUMBERS = {
         "damaged order 0 1",
     ),
     "cuts at two places": (one([A, LONGER, X, Y], [0, 1, 2, 3]), "damaged cut 0 1"),
+    "a cut late in a session": (one([A, E], [0] * 70_000 + [1, 0]), "damaged cut 0 70000"),
     "cuts of two sessions": (
         store_of([Taken([A, E], [0, 1]), Taken([LONGER], [0, 2]), Taken([], [2])]),
         "damaged cut 1 1",

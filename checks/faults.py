@@ -14,6 +14,7 @@ from folders import (
     INIT,
     LISTED,
     OUTPUTS,
+    READING,
     TEXT,
     expect_committed,
     expect_files,
@@ -152,8 +153,8 @@ def link_to_a_file_is_followed():
     for name in twice():
         os.rename(f"{FOLDER}/{name}", f"nest/{name}")
         os.symlink(f"../nest/{name}", f"{FOLDER}/{name}")
-    expect(run([FOLDER, "list"]), output=LISTED)
-    expect(run([FOLDER, "restore", "b"]), output=bytes(200))
+    for words in READING:
+        expect(run([FOLDER, *words]), output=OUTPUTS[words[0]])
 
 
 # Permissions.

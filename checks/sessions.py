@@ -9,6 +9,7 @@ import reference_store
 from folders import (
     FOLDER,
     LONG,
+    OUTPUTS,
     READING,
     Twin,
     expect_files,
@@ -380,9 +381,11 @@ def working_folder_and_links_are_stores():
     write_files(FOLDER, files)
     os.symlink(FOLDER, "link")
     for folder in ("link", "link/", Path(FOLDER).absolute()):
-        expect(run([folder, "list"]), output=b"0 a 200 4\n1 b 200 4\n")
+        for words in READING:
+            expect(run([folder, *words]), output=OUTPUTS[words[0]])
     starter = ("sh", "-c", f'cd {FOLDER} && exec "$@"', "sh")
-    expect(run([".", "restore", "a"], starter=starter), output=bytes(200))
+    for words in READING:
+        expect(run([".", *words], starter=starter), output=OUTPUTS[words[0]])
 
 
 @test
