@@ -412,6 +412,14 @@ def audit_in_too_little_memory_says_so():
     expect_same("statuses from too little memory to enough", {0, 13}, statuses)
 
 
+@test
+def bulk_in_too_little_memory_leaves_the_store_as_it_was():
+    write_files(FOLDER, twice())
+    came = run([FOLDER, "bulk", "1", "4096"], starter=with_memory(100_000))
+    expect_refusal(came, "out of memory")
+    expect_committed()
+
+
 # Threads.
 
 # The limit on threads does not hold root back, so another user runs the program. It may open all
