@@ -12,17 +12,29 @@ from crafted_stores import KINDS, NUMBERS
 from damage import SMALL_STORES, change_each_byte, cut_at_each_length
 from folders import FOLDER, LONG, Twin, new_twin, refused, wanted_run, with_tails
 from harness import Mismatch, Run, each_row, expect, expect_same, run, test
-from made_stores import FLAWED, SOUND, Taken, changed, misnamed
-from reference import DEFAULTS, SPARSE, SPARSE_ZERO, marked_zeros
+from made_stores import FLAWED, SOUND, Taken, changed, counts, misnamed
+from reference import (
+    DEFAULTS,
+    SPARSE,
+    SPARSE_ZERO,
+    WINDOW,
+    Params,
+    fingerprint,
+    marked_zeros,
+)
 from reference_audit import audit, counts_of
 from reference_store import (
     MAX_CHUNK,
     MAX_CONTAINER,
     SETTINGS,
     Drop,
+    Ingest,
+    append_record,
+    chunks_of,
     files_in,
     ingest,
     opened,
+    spelling_of,
     twice,
     write_files,
 )
@@ -69,12 +81,13 @@ def audit_of_a_generated_session_counts_its_chunks():
     twin.expect(["audit"], Run(0, counts_of(opened(twin.files)), b""))
 
 
+def expect_sound(files, line):
+    Twin(files).expect(["audit"], Run(0, line.encode(), b""))
+
+
 @test
 def stores_without_a_flaw_are_counted():
-    def expect_row(_, files, line):
-        Twin(files).expect(["audit"], Run(0, line.encode(), b""))
-
-    each_row(((name, *it) for name, it in SOUND.items()), expect_row)
+    each_row(((name, *it) for name, it in SOUND.items()), lambda _, *it: expect_sound(*it))
 
 
 def expect_flaw(_, files, note):
@@ -176,14 +189,17 @@ def each_length_that_a_file_is_cut_to_is_named():
 
 @test
 def what_is_not_committed_is_not_looked_at():
-    line = b"ok 2 live 2 ingested 2 chunks 1 containers\n"
-    rows = [(with_tails(twice(), it),) for it in TAILS]
+    rows = [with_tails(twice(), it) for it in TAILS]
     rows += [
-        (twice() | {"container.0.1": b"XXXXXXXXX"},),
-        (twice() | {"container.1.0": b"XXXXXXXXX", "book.1": b"x", "seal.1": b"SSS"},),
-        (twice() | {"seal.0": b"\x00\xff", "head": twice()["head"][:SETTINGS] + b"\x00"},),
+        twice() | {"container.0.1": b"XXXXXXXXX"},
+        twice() | {"container.1.0": b"XXXXXXXXX", "book.1": b"x", "seal.1": b"SSS"},
+        twice() | {"seal.0": b"\x00\xff", "head": twice()["head"][:SETTINGS] + b"\x00"},
     ]
-    each_row(rows, lambda files: Twin(files).expect(["audit"], Run(0, line, b"")))
+    rows = [(it, counts(2, 2, 2, 1)) for it in rows]
+    for name in ("no session", "an empty session"):
+        files, line = SOUND[name]
+        rows.append((files | {CONTAINER: b"XXXXXXXXX"}, line))
+    each_row(rows, expect_sound)
 
 
 @test
@@ -262,37 +278,108 @@ def container_that_is_full_is_audited_to_its_last_byte():
 
 
 @test
-def many_small_chunks_are_audited():
-    """More chunks than 16 bits count, of the least length, and more bytes than a batch has."""
-    count, draw = 200_000, Random(72)
-    text = draw.randbytes(48 * count)
-    twin = new_twin(replace(DEFAULTS, min=48, max=48))
-    expect_same("the status", 0, run([FOLDER, "ingest", "a"], text, changes=FOLDER).status)
-    twin.files = files_in(FOLDER)
-    line = f"ok 1 live 1 ingested {count} chunks 3 containers\n".encode()
-    twin.expect(["audit"], Run(0, line, b""))
-    # 87,381 chunks of 48 bytes fit into a container.
-    for number in (87_381, 65_536, 199_999):
-        container, at = divmod(number, 87_381)
-        name, offset = f"container.0.{container}", 8 + 48 * at
-        kept = text[48 * number : 48 * number + 48]
-        found = bytes([kept[0] ^ 1]) + kept[1:]
-        damaged = Twin(changed(twin.files, name, offset, found[0]))
-        damaged.expect(["audit"], refused(misnamed(number, sha256(kept).digest(), found)))
+def no_chunk_of_many_is_left_out():
+    """Chunks of one to five bytes, of which those near powers of two are changed, each alone."""
+    fresh = [it.to_bytes(1 + it // 256, "big") for it in range(1030)]
+    files = made_stores.one(fresh, [*range(len(fresh))])
+
+    def expect_row(number):
+        chunk, offset = fresh[number], 8 + sum(map(len, fresh[:number]))
+        found = bytes([chunk[0] ^ 0xFF]) + chunk[1:]
+        note = misnamed(number, sha256(chunk).digest(), found)
+        expect_flaw(number, changed(files, CONTAINER, offset, found[0]), note)
+
+    each_row([(2**power + it,) for power in range(1, 11) for it in (-1, 0, 1)], expect_row)
+
+
+def small_chunk(text, number):
+    return text[48 * number : 48 * number + 48]
+
+
+def with_small_chunk(files, number, chunk):
+    """The files with another chunk. 87,381 chunks of 48 bytes fit into a container."""
+    container, at = divmod(number, 87_381)
+    name, offset = f"container.0.{container}", 8 + 48 * at
+    return files | {name: files[name][:offset] + chunk + files[name][offset + 48 :]}
 
 
 @test
-def cut_of_a_late_session_among_many_is_named():
-    """All sessions but one have the same chunks, and it has them in another order."""
+def many_small_chunks_are_audited():
+    """More chunks than 16 bits count, of the least length, and more bytes than a batch has."""
+    count, draw = 200_000, Random(72)
+    text = draw.randbytes(48 * count + 5)
+    twin = new_twin(replace(DEFAULTS, min=48, max=48))
+    expect_same("the status", 0, run([FOLDER, "ingest", "a"], text, changes=FOLDER).status)
+    twin.files = files_in(FOLDER)
+    line = f"ok 1 live 1 ingested {count + 1} chunks 3 containers\n".encode()
+    twin.expect(["audit"], Run(0, line, b""))
+    # The first of each row is the one to be named. 174,762 chunks have at most 8 MiB.
+    rows = [
+        [4_095, 20_000, 40_000, 65_536, 87_380],
+        [65_536, 87_380],
+        [87_380, 87_381],
+        [87_381, 150_000],
+        [174_761, 174_762],
+        [174_762, 199_999],
+        [199_999],
+    ]
+    for numbers in rows:
+        damaged = twin.files
+        for number in numbers:
+            damaged = with_small_chunk(damaged, number, bytes(48))
+        kept = sha256(small_chunk(text, numbers[0])).digest()
+        Twin(damaged).expect(["audit"], refused(misnamed(numbers[0], kept, bytes(48))))
+    record = opened(twin.files).book.sessions[0]
+    same = with_small_chunk(twin.files, count - 1, small_chunk(text, 3))
+    fresh = [*record.fresh[:-2], record.fresh[3], record.fresh[-1]]
+    same["book.0"] = spelling_of(record._replace(fresh=fresh))
+    Twin(same).expect(["audit"], refused(f"damaged twin 3 {count - 1}"))
+    # The last chunk is too short to come before another one.
+    late = dict(twin.files)
+    append_record(late, 0, len(late["book.0"]), Ingest(b"b", 53, [], [count, 0]))
+    Twin(late).expect(["audit"], refused("damaged cut 1 0"))
+
+
+@test
+def flaws_of_late_sessions_among_many_are_named():
+    """Most sessions have the same chunks, and one has them in another order."""
     fresh = [bytes(64), bytes(8)]
     sessions = [Taken(fresh, [0, 1]), *[Taken([], [0, 0, 1])] * 300]
     line = b"ok 301 live 301 ingested 2 chunks 1 containers\n"
     Twin(made_stores.store_of(sessions)).expect(["audit"], Run(0, line, b""))
-    sessions[200] = Taken([], [0, 1, 0])
-    Twin(made_stores.store_of(sessions)).expect(["audit"], refused("damaged cut 200 1"))
+    sessions[280] = Taken([], [0, 1, 0])
+    Twin(made_stores.store_of(sessions)).expect(["audit"], refused("damaged cut 280 1"))
+    sessions[290] = Taken([b"x", b"y"], [3, 2])
+    Twin(made_stores.store_of(sessions)).expect(["audit"], refused("damaged order 290 0"))
 
 
 # Drawn stores.
+
+
+def drawn_params(draw, degree, bits):
+    """Parameters of this degree and so many bits that cut a drawn text, and the text."""
+    polynomial, text = 1 << degree | draw.getrandbits(degree) | 1, draw.randbytes(1200)
+    cut = draw.randrange(300, 900)
+    target = fingerprint(polynomial, text[cut - WINDOW : cut]) % 2**bits
+    least = WINDOW if bits < 5 else draw.randrange(WINDOW, 300)
+    return Params(polynomial, bits, target, least, 1200), text
+
+
+@test
+def chunks_are_cut_by_the_parameters_of_the_store():
+    """Chunks that a candidate ends, and then the first two of them in one."""
+    draw = Random(74)
+
+    def expect_row(degree):
+        params, text = drawn_params(draw, degree, degree % 16 + 1)
+        parts = chunks_of(params, text)
+        numbers = [*range(len(parts))]
+        expect_sound(made_stores.one(parts, numbers, params), counts(1, 1, len(parts), 1))
+        joined = [parts[0] + parts[1], *parts[2:]]
+        expect_flaw(None, made_stores.one(joined, numbers[:-1], params), "damaged cut 0 0")
+
+    each_row([(degree,) for degree in range(16, 64)], expect_row)
+
 
 PARTS = [
     bytes(64),

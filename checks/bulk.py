@@ -18,7 +18,7 @@ from harness import (
     test,
 )
 from reference import DEFAULTS, LONGEST_INPUT, SPARSE_ZERO
-from reference_bulk import BLOCK, bulk_input
+from reference_bulk import BLOCK, STATES, block_of, bulk_input, origin_of
 from reference_store import files_in, twice, write_files
 
 MOST_BLOCKS = 4096
@@ -77,6 +77,14 @@ def generated_input_is_that_of_a_file_for_all_workers():
     each_row([("workers=8",), ("workers=1",), ("segment=1000000", "workers=3")], expect_row)
 
 
+def stored_block(number):
+    """A block whose chunks have 16 blocks each, as it is stored. Three of them fill a container."""
+    chunk, at = divmod(number, 16)
+    with open(f"{FOLDER}/container.0.{chunk // 3}", "rb") as container:
+        container.seek(8 + (16 * (chunk % 3) + at) * BLOCK)
+        return container.read(BLOCK)
+
+
 @test
 def most_blocks_are_as_long_as_the_longest_input():
     os.mkdir(FOLDER)
@@ -85,6 +93,14 @@ def most_blocks_are_as_long_as_the_longest_input():
     line = f"ingested bulk.1.{MOST_BLOCKS} {LONGEST_INPUT} bytes 256 places 256 new\n"
     came = run([FOLDER, "bulk", "1", f"{MOST_BLOCKS}"], changes=FOLDER)
     expect(came, output=line.encode())
+
+    def expect_row(number, states):
+        wanted = block_of(1, origin_of(number), states)
+        expect_same("its bytes", wanted, stored_block(number)[: len(wanted)])
+
+    # All begin as they should, and the last ones are right to their ends.
+    starts = [(number, 16) for number in range(MOST_BLOCKS)]
+    each_row([*starts, *((MOST_BLOCKS - it, STATES) for it in range(1, 5))], expect_row)
 
 
 @test

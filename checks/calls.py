@@ -271,6 +271,15 @@ def workers_are_threads():
                 raise Mismatch(f"{words} {keys}: wanted {least} to {most} threads, came {came}")
 
 
+@traced_test
+def workers_of_a_bulk_are_threads():
+    for keys, least, most in ((["workers=1"], 0, 0), (["workers=3", "segment=1000"], 4, 6)):
+        write_files(FOLDER, twice())
+        came = threads_of([FOLDER, "bulk", "7", "1", *keys], b"")
+        if not least <= came <= most:
+            raise Mismatch(f"{keys}: wanted {least} to {most} threads, came {came}")
+
+
 # Audits.
 
 

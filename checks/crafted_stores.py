@@ -76,6 +76,7 @@ KINDS = {
     ),
     "a chunk that no place has": (with_another_byte(one([A, E], [1])), FIRST_BYTE_OF_A),
     "equal chunks, the order and a cut": (THREE_FLAWS, "damaged twin 0 2"),
+    "equal chunks, of which no place has the second": (one([X, X], [0]), "damaged twin 0 1"),
     "equal chunks of a later session and the order of the first": (
         store_of([Taken([X, Y], [1, 0]), Taken([X], [2])]),
         "damaged twin 0 2",
@@ -117,6 +118,10 @@ NUMBERS = {
     "three equal chunks": (one([P, Q, P, P], [0, 1, 2, 3]), "damaged twin 0 2"),
     "the order at two places": (one([P, Q, R], [1, 2, 0]), "damaged order 0 0"),
     "the order at a place and at the end": (one([P, Q, R], [0, 2]), "damaged order 0 1"),
+    "the order late in a session": (
+        one([A, X, Y], [0] * 70_000 + [2, 1]),
+        "damaged order 0 70000",
+    ),
     "the order of two sessions": (
         store_of([Taken([P], [0]), Taken([Q, R], [1]), Taken([X, Y], [4, 3])]),
         "damaged order 1 1",
@@ -129,12 +134,17 @@ NUMBERS = {
         store_of([Taken([P], [0]), Taken([Q, R], [0, 2, 1]), Drop(1)]),
         "damaged order 1 1",
     ),
+    "the order of a session after a dropped one": (
+        store_of([Taken([P], [0]), Drop(0), Taken([X, Y], [2, 1])]),
+        "damaged order 1 0",
+    ),
     # The chunk that no place of its own session has counts as having occurred.
     "the end of a session, and a later session of its chunk": (
         store_of([Taken([P, Q], [0]), Taken([R], [1, 2])]),
         "damaged order 0 1",
     ),
     "cuts at two places": (one([A, LONGER, X, Y], [0, 1, 2, 3]), "damaged cut 0 1"),
+    "a cut late in a session": (one([A, E], [0] * 70_000 + [1, 0]), "damaged cut 0 70000"),
     "cuts of two sessions": (
         store_of([Taken([A, E], [0, 1]), Taken([LONGER], [0, 2]), Taken([], [2])]),
         "damaged cut 1 1",
@@ -146,6 +156,10 @@ NUMBERS = {
     "a cut of a dropped session alone": (
         store_of([Taken([A, LONGER], [0, 1]), Drop(0), Taken([], [0, 0])]),
         "damaged cut 0 1",
+    ),
+    "a cut of a session after a dropped one": (
+        store_of([Taken([A], [0]), Drop(0), Taken([LONGER], [0, 1])]),
+        "damaged cut 1 1",
     ),
     "a cut of a session between two that are right": (
         store_of([Taken([A, E], [0, 1]), Taken([], [1, 0]), Taken([], [0, 0, 1])]),

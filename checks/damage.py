@@ -324,6 +324,21 @@ def chunk_that_no_recipe_names_is_no_damage_of_opening():
 
 
 @test
+def each_byte_of_a_name_is_compared():
+    """The book keeps the name of a chunk with one other byte."""
+
+    def expect_row(at):
+        kept = bytearray(ZERO.name)
+        kept[at] ^= 1
+        twin = Twin(store_of(ingest_of(b"a", 1, [NewChunk(1, bytes(kept))], [0])))
+        note = f"damaged chunk 0 kept {kept.hex()} found {ZERO.name.hex()}"
+        for words in (["audit"], ["restore", "a"]):
+            twin.expect(words, refused(note))
+
+    each_row([(at,) for at in range(32)], expect_row)
+
+
+@test
 def stored_chunk_that_has_not_its_name_ends_an_ingest_of_the_name():
     """A chunk under the name of other bytes is met by a restore and by an ingest of the name."""
     files = store_of(ingest_of(b"a", 2, [NewChunk(2, ZERO.name)], [0]))

@@ -24,7 +24,7 @@ from tracing import disturbed, each_disturbance, traced_test
 
 WRITING = ["openat", "write", "ftruncate", "fdatasync", "fsync"]
 READS = ["openat", "read", "pread64"]
-AGAIN = ["read", "pread64", "write"]
+AGAIN = ["openat", "read", "pread64", "write"]
 
 INGEST = ["ingest", "n"]
 DROP = ["drop", "a"]

@@ -14,6 +14,7 @@ from folders import (
     INIT,
     LISTED,
     OUTPUTS,
+    READING,
     TEXT,
     expect_committed,
     expect_files,
@@ -152,8 +153,8 @@ def link_to_a_file_is_followed():
     for name in twice():
         os.rename(f"{FOLDER}/{name}", f"nest/{name}")
         os.symlink(f"../nest/{name}", f"{FOLDER}/{name}")
-    expect(run([FOLDER, "list"]), output=LISTED)
-    expect(run([FOLDER, "restore", "b"]), output=bytes(200))
+    for words in READING:
+        expect(run([FOLDER, *words]), output=OUTPUTS[words[0]])
 
 
 # Permissions.
@@ -409,6 +410,14 @@ def audit_in_too_little_memory_says_so():
         else:
             expect_refusal(came, "out of memory")
     expect_same("statuses from too little memory to enough", {0, 13}, statuses)
+
+
+@test
+def bulk_in_too_little_memory_leaves_the_store_as_it_was():
+    write_files(FOLDER, twice())
+    came = run([FOLDER, "bulk", "1", "4096"], starter=with_memory(100_000))
+    expect_refusal(came, "out of memory")
+    expect_committed()
 
 
 # Threads.

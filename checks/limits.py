@@ -28,6 +28,7 @@ from reference_audit import counts_of
 from reference_store import (
     COMMIT,
     CONTAINER_HEADER,
+    MAX_CHUNK,
     MAX_CHUNKS,
     MAX_CONTAINER,
     MAX_PLACES,
@@ -104,6 +105,7 @@ def sessions_up_to_their_number_are_taken_in():
     expect(came, output=ingest_line("x", 3, 1, 1))
     expect_untouched_by(["ingest", "x"], b"abc", "name taken")
     expect_untouched_by(["ingest", "y"], b"abc", "too many sessions")
+    expect_untouched_by(["bulk", "7", "1"], b"abc", "too many sessions")
     lines = [f"{number} s{number} 0 0\n" for number in range(MAX_SESSIONS - 1)]
     expect(run([FOLDER, "list"]), output="".join([*lines, "4095 x 3 1\n"]).encode())
 
@@ -225,6 +227,31 @@ def most_chunks_are_audited():
     # 87,381 chunks of 48 bytes fit into a container.
     line = b"ok 1 live 1 ingested 4194304 chunks 49 containers\n"
     expect_peak(MAX_CHUNKS, MAX_CHUNKS, peak_of_an_audit(line=line))
+
+
+@test
+def containers_have_numbers_of_more_than_a_byte():
+    """Each has three chunks of zeros under another name, and little of it is on the disk."""
+    count, longest, text = 258, replace(DEFAULTS, max=MAX_CHUNK), bytes(MAX_CHUNK)
+    fresh = (u32(MAX_CHUNK) + bytes(32)) * (3 * count)
+    record = sealed(b"I", body_of_ingest(b"c", 0, 3 * count, fresh, 0, b""))
+    head = settings_of(longest) + COMMIT
+    write_files(FOLDER, {"head": head, "seal.0": COMMIT, "book.0": record})
+    for number in range(count):
+        with open(f"{FOLDER}/container.0.{number}", "wb") as file:
+            file.write(container_header(number))
+            file.truncate(CONTAINER_HEADER + 3 * MAX_CHUNK)
+    audit = [PROGRAM, FOLDER, "audit"]
+    note = f"damaged chunk 0 kept {bytes(32).hex()} found {sha256(text).hexdigest()}"
+    expect_refusal(ended(audit, capture_output=True), note)
+    came = ended([PROGRAM, FOLDER, "ingest", "n"], input=text, capture_output=True)
+    expect(came, output=ingest_line("n", MAX_CHUNK, 1, 1))
+    added = Path(FOLDER, f"container.0.{count}").read_bytes()
+    expect_same("the next header", container_header(count), added[:CONTAINER_HEADER])
+    expect_same("whether its chunk is right", True, added[CONTAINER_HEADER:] == text)
+    with open(f"{FOLDER}/container.0.257", "r+b") as file:
+        file.write(container_header(1))
+    expect_refusal(ended(audit, capture_output=True), "damaged mark 257")
 
 
 @test

@@ -119,6 +119,10 @@ SOUND = {
         counts(2, 2, 2, 1),
     ),
     "two containers": (LARGE_STORE, counts(1, 1, 5, 2)),
+    "as many bytes as a container has, in two": (
+        one(LARGE[:4], [0, 1, 2, 3], LONGEST),
+        counts(1, 1, 4, 2),
+    ),
 }
 
 # The first flaw of stores that have one.
@@ -142,6 +146,11 @@ FLAWED = {
         store_of([Taken([X], [0]), Taken([Y, X], [1, 2])]),
         "damaged twin 0 2",
     ),
+    "equal chunks of a dropped session and of a live one": (
+        store_of([Taken([X], [0]), Drop(0), Taken([X], [1])]),
+        "damaged twin 0 1",
+    ),
+    "equal chunks of the maximum": (one([bytes(256)] * 2, [0, 1], SPARSE), "damaged twin 0 1"),
     "a chunk that comes too early": (one([A, E], [1, 0]), "damaged order 0 0"),
     "a chunk that no place has": (one([A, E], [0]), "damaged order 0 1"),
     "a chunk of a session without places": (one([A], []), "damaged order 0 0"),
@@ -151,6 +160,14 @@ FLAWED = {
     ),
     "a chunk with a candidate in it": (one([LONGER], [0]), "damaged cut 0 0"),
     "a last chunk with a candidate in it": (one([A, LONGER], [0, 1]), "damaged cut 0 1"),
+    "a candidate one byte before the end of a chunk": (
+        one([marked(99, 101)], [0], SPARSE),
+        "damaged cut 0 0",
+    ),
+    "a candidate late in a chunk of the maximum": (
+        one([marked(1_030_000, MAX_CHUNK)], [0], replace(LONGEST, target=1, min=1_000_000)),
+        "damaged cut 0 0",
+    ),
     "a chunk shorter than the minimum before another": (
         one([A[1:], X], [0, 1]),
         "damaged cut 0 0",

@@ -29,8 +29,9 @@ def bytes_after(state, count):
 
 
 @lru_cache(maxsize=4)
-def block_of(seed, origin):
-    return bytes_after((seed + STEP_OF_ORIGINS * (origin + 1)) & MASK, STATES)
+def block_of(seed, origin, states=STATES):
+    """A block, or the bytes that its first states give it."""
+    return bytes_after((seed + STEP_OF_ORIGINS * (origin + 1)) & MASK, states)
 
 
 def origin_of(number):

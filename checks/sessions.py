@@ -6,7 +6,17 @@ from pathlib import Path
 from random import Random
 
 import reference_store
-from folders import FOLDER, LONG, Twin, expect_files, new_twin, refused, with_tails
+from folders import (
+    FOLDER,
+    LONG,
+    OUTPUTS,
+    READING,
+    Twin,
+    expect_files,
+    new_twin,
+    refused,
+    with_tails,
+)
 from harness import (
     Mismatch,
     Run,
@@ -356,6 +366,11 @@ def folder_of_any_name_is_a_store():
             expect(run([folder, "ingest", "a"], b"abc", changes=changes), output=line)
             expect(run([folder, "list"]), output=b"0 a 3 1\n")
             expect(run([folder, "restore", "a"]), output=b"abc")
+            expect(run([folder, "audit"]), output=b"ok 1 live 1 ingested 1 chunks 1 containers\n")
+            came = run([folder, "bulk", "7", "1"], changes=changes)
+            expect_same("how bulk ends", (0, b""), (came.status, came.notes))
+            came = run([folder, "drop", "a"], changes=changes)
+            expect(came, output=b"dropped a 1 places\n")
 
     each_row(((folder,) for folder in FOLDERS), expect_row)
 
@@ -366,15 +381,17 @@ def working_folder_and_links_are_stores():
     write_files(FOLDER, files)
     os.symlink(FOLDER, "link")
     for folder in ("link", "link/", Path(FOLDER).absolute()):
-        expect(run([folder, "list"]), output=b"0 a 200 4\n1 b 200 4\n")
+        for words in READING:
+            expect(run([folder, *words]), output=OUTPUTS[words[0]])
     starter = ("sh", "-c", f'cd {FOLDER} && exec "$@"', "sh")
-    expect(run([".", "restore", "a"], starter=starter), output=bytes(200))
+    for words in READING:
+        expect(run([".", *words], starter=starter), output=OUTPUTS[words[0]])
 
 
 @test
 def commands_that_read_nothing_leave_the_input():
     write_files(FOLDER, twice())
-    for words in (["list"], ["restore", "a"], ["restore", "x"], ["init"]):
+    for words in [*READING, ["restore", "x"], ["drop", "x"], ["init"]]:
         with file_of(b"abc") as source:
             run([FOLDER, *words], source)
             expect_same(f"bytes that {words} took", 0, position_of(source))

@@ -18,7 +18,17 @@ from folders import (
     refused,
     with_ingest,
 )
-from harness import Run, closing, each_row, expect, expect_refusal, run, test
+from harness import (
+    Run,
+    closing,
+    each_row,
+    expect,
+    expect_refusal,
+    expect_same,
+    run,
+    status_of,
+    test,
+)
 from pipes import expect_part, limiting_files, pipe, set_non_blocking
 from reference import DEFAULTS
 from reference_store import files_in, init, twice, write_files
@@ -101,6 +111,30 @@ def input_that_fails_after_some_bytes_leaves_the_store_as_it_was():
         sink.write(bytes(1000))
         expect_refusal(run([FOLDER, "ingest", "n"], source), READING)
     expect_committed()
+
+
+@test
+def status_stays_if_the_note_of_a_refusal_cannot_be_written():
+    flawed = twice() | {"container.0.0": bytes(80)}
+    rows = [({}, ["list"], "no store"), (flawed, ["audit"], "damaged mark 0")]
+
+    def expect_row(files, words, note):
+        write_files(FOLDER, files)
+        for starter in (closing("2>&"), ("sh", "-c", 'exec "$@" 2>/dev/full', "sh")):
+            expect(run([FOLDER, *words], starter=starter), status_of(note))
+
+    each_row(rows, expect_row)
+
+
+@test
+def output_that_fills_up_has_a_part_of_a_line():
+    for words in (["audit"], ["refs"], ["list"]):
+        write_files(FOLDER, twice())
+        with tempfile.TemporaryFile() as file:
+            came = run([FOLDER, *words], b"", file, before_start=limiting_files(5))
+            expect_refusal(came, WRITING)
+            file.seek(0)
+            expect_same("what was written", OUTPUTS[words[0]][:5], file.read())
 
 
 @test

@@ -131,6 +131,7 @@ def commands_leave_a_folder_as_they_should():
         (["audit"], b"", set()),
         (["plan"], b"abc", set()),
         (["drop", "a"], b"", {"book.0", "seal.0"}),
+        (["bulk", "7", "1"], b"", {"book.0", "seal.0", "container.0.0"}),
     ]
     before = entries_of(STORE)
     for words, source, changes in rows:
