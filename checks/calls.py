@@ -3,6 +3,7 @@
 The calls are seen by strace. If it cannot be used, the tests are not tried.
 """
 
+import os
 import re
 import subprocess
 from dataclasses import replace
@@ -332,9 +333,10 @@ def reading_commands_open_no_file_for_writing():
 
 @traced_test
 def chunks_of_an_audit_are_shared_by_threads():
-    """There are four workers: three threads beside the first for each part that they share."""
+    """The names and then the cuts of a batch: each time a thread for each processor, or more."""
     files, _, _ = audited_store()
     write_files(FOLDER, files)
+    least = 2 * (len(os.sched_getaffinity(0)) - 1)
     came = threads_of([FOLDER, "audit"], b"")
-    if came < 3:
-        raise Mismatch(f"wanted at least 3 threads, came {came}")
+    if came < least:
+        raise Mismatch(f"wanted at least {least} threads, came {came}")
