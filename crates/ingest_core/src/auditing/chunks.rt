@@ -205,6 +205,10 @@ fn read_onto<F: Shelf>(
     ensures short { (damage : Damage) → result ≡ Err (StoreFault.Damaged damage)
         → IfSome (content (F.files shelf.old) (Container generation spot.container)) (λ bytes.
         length (take size (drop spot.offset bytes)) < size) }
+    ensures found { (damage : Damage) → result ≡ Err (StoreFault.Damaged damage)
+        → IfSome (content (F.files shelf.old) (Container generation spot.container)) (λ bytes.
+        damage ≡ Damage.Container spot.container (spot.offset + size)
+        (spot.offset + length (take size (drop spot.offset bytes)))) }
     ensures refused { OnErr result (OnlyFinds result) }
 
     ensures reads { OnlyReads (result ≡ Err StoreFault.ShelfFault) F.files F.loose F.faults F.faultless
