@@ -4,8 +4,8 @@
 //!
 //! The crate uses the definitions of `sd_base`, the source and the shelf of `edge_traits`, the namers
 //! of `chunk_names` and the store of `store_core`. It cuts by `segment_scan` and `cut_walk`, with the
-//! maps of `candidate_map`, and finds leaders by `shard_plan`. An audit names and scans the chunks of
-//! a batch by `rayon`. All rules here are this project's own.
+//! maps of `candidate_map`, and finds leaders by `shard_plan`. An audit names the chunks of a batch
+//! by `rayon`. All rules here are this project's own.
 #![tactic(auto)]
 
 mod auditing;

@@ -8,10 +8,13 @@ ghost use Rattle.sd_base.specs.Params.{numbers_of};
 use crate::auditing::chunk_cuts::{ChunkCuts, cuts_of_chunk};
 use crate::auditing::rules::ChunkRules;
 use chunk_names::{Namer, chunk};
-use rayon::prelude::*;
 use sd_base::OutOfMemory;
 use std::alloc::Global;
-use std::thread::Threads;
+use std::thread::{Threads, for_each_mut};
+
+// In how many shares the cuts of a batch are looked at. They are more than the usual number of
+// processors, so that none of these is long without work.
+const SHARES: usize = 16;
 
 /// What is kept of the cuts of the chunks of a text, found side by side. The first chunk begins where
 /// the text does. Fails only if memory runs out.
@@ -50,10 +53,11 @@ fn cut_each<H: Threads + Sync, N: Namer>(
         → AreCutsOf (numbers_of rules.now.params) (chunk_at text.now 0 ends.now n) (cuts_at cuts.new n) }
 {
     let (tables, params) = (&rules.tables, &rules.params);
-    par_for_each_mut(
+    for_each_mut(
         rt,
         cuts,
-        |number: usize, found: &mut ChunkCuts|
+        SHARES,
+        &|number: usize, found: &mut ChunkCuts|
             requires { RiseWithin 0 (length text.now) ends.now × (number < length ends.now)
                 × (tables.now.polynomial ≡ params.now.polynomial) }
             ensures { AreCutsOf (numbers_of params.entry.now)
